@@ -1,0 +1,3 @@
+pub mod Server
+pub mod Values
+pub mod Client

@@ -1,0 +1,12 @@
+//! The texts of Shiny's client protocol: client messages read, server messages written.
+//!
+//! A server message is the compact JSON text that `serde_json` writes for a value, keys in byte
+//! order. A client message is the value that `serde_json` reads. Both are after Shiny's protocol,
+//! in this project's profile (`docs/protocol.md`).
+#![tactic(auto)]
+
+mod batch;
+mod message;
+
+pub use batch::{Batch, BatchOutput, BatchOutputs, Messages};
+pub use message::{BadMessage, Client, ClientData, Pair};
