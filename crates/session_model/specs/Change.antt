@@ -1,0 +1,26 @@
+-- A change of a source: setting it to the value that it has does nothing.
+use Rattle.std.specs.Prelude.{ℕ, Bool, true, false, ◌==◌, List, map, Option, Some, None, slice_set, if◌then◌else◌}
+use Rattle.std.specs.List.{list_any}
+use Rattle.rx_value.specs.declared.source.SourceValue.{SourceValue}
+use Rattle.rx_value.specs.Value.{source_eq}
+use Rattle.app_tree.specs.Current.{value_at}
+use Rattle.session_model.specs.declared.state.Dependencies.{Dependencies}
+use Rattle.session_model.specs.declared.state.ReaderState.{ReaderState}
+use Rattle.session_model.specs.State.{SessionState}
+
+abbrev pub reaches : ℕ → List ℕ → Bool
+reaches s sources = list_any (λ t. t == s) sources
+
+abbrev pub marked_dependencies : ℕ → Option Dependencies → Option Dependencies
+marked_dependencies s None = None
+marked_dependencies s (Some d) = Some (if reaches s d.sources then record d { changed = true } else d)
+
+-- a reader whose last run reached source s is no longer alive
+abbrev pub marked : ℕ → ReaderState → ReaderState
+marked s r = record r { dependencies = marked_dependencies s r.dependencies }
+
+abbrev pub changed_to : ℕ → SourceValue → SessionState → SessionState
+changed_to s x state = record state { values = slice_set state.values s x; readers = map (marked s) state.readers }
+
+abbrev pub change : ℕ → SourceValue → SessionState → SessionState
+change s x state = if source_eq (value_at state.values s) x then state else changed_to s x state

@@ -1,0 +1,10 @@
+pub mod State
+pub mod Change
+pub mod Run
+pub mod Flush
+pub mod Apply
+pub mod Texts
+pub mod Alone
+pub mod Early
+pub mod Transcript
+pub mod Examples

@@ -1,0 +1,51 @@
+-- The state of a session.
+use Rattle.std.specs.Prelude.{ℕ, Bool, true, false, not, List, [], ◌∷◌, map, Option, Some, None, is_some, slice_get, option_map, unwrap_or}
+use Rattle.rx_value.specs.declared.value.Value.{Value}
+use Rattle.app_tree.specs.Tree.{Node, Shape}
+use Rattle.app_tree.specs.Numbering.{readers, starting_values}
+use Rattle.app_tree.specs.Current.{CurrentValues}
+use Rattle.app_tree.specs.Fresh.{IsolatedOutcomes}
+use Rattle.session_model.specs.declared.state.Dependencies.{Dependencies}
+use Rattle.session_model.specs.declared.state.ReaderState.{ReaderState}
+
+-- a started invocation of a task
+pub record Invocation : Type 0 where
+  pub number : ℕ
+  pub args : List Value
+
+-- a task: the number of its last invocation, the one that runs, and the arguments that wait, oldest first
+pub record TaskBoard : Type 0 where
+  pub last_number : ℕ
+  pub running : Option Invocation
+  pub queued : List (List Value)
+
+-- the sources by number, the readers by number, the tasks by number
+pub record SessionState : Type 0 where
+  pub values : CurrentValues
+  pub readers : List ReaderState
+  pub boards : List TaskBoard
+
+-- hidden, and never run
+abbrev pub first_reader : ReaderState
+first_reader = record { dependencies = None; isolated = []; shown = false; last = None }
+
+abbrev pub first_readers : List Node → List ReaderState
+first_readers [] = []
+first_readers (i ∷ more) = first_reader ∷ first_readers more
+
+-- before the first event
+abbrev pub first_state : Shape → SessionState
+first_state app = record { values = starting_values app.items; readers = first_readers (readers app); boards = [] }
+
+abbrev pub isolated_of : SessionState → IsolatedOutcomes
+isolated_of state = map (λ r. r.isolated) state.readers
+
+abbrev pub reader_state : SessionState → ℕ → ReaderState
+reader_state state n = unwrap_or (slice_get state.readers n) first_reader
+
+abbrev pub has_run : ReaderState → Bool
+has_run r = is_some r.dependencies
+
+-- it has run, and nothing that it reached was changed since
+abbrev pub is_alive : ReaderState → Bool
+is_alive r = unwrap_or (option_map (λ d. not d.changed) r.dependencies) false

@@ -1,0 +1,168 @@
+-- A transcript of client messages, and the output that its replay writes.
+use Rattle.std.specs.Prelude.{ℕ, suc, ◌==◌, Bool, true, false, not, ◌&&◌, ◌||◌, nat_le, nat_lt, List, [], ◌∷◌, ◌++◌, length, drop, Option, Some, None, codes, bytes_eq, decimal, if◌then◌else◌}
+use Rattle.std.specs.List.{before_first, after_first, list_all}
+use Rattle.std.specs.Str.{is_utf8}
+use Rattle.std.specs.Char.{is_ascii_alphanumeric}
+use Rattle.shiny_json.specs.declared.message.Pair.{Pair}
+use Rattle.shiny_json.specs.declared.message.BadMessage.{BadMessage}
+use Rattle.shiny_json.specs.declared.message.BadMessage.TheVariants as bad
+use Rattle.app_tree.specs.Tree.{Shape}
+use Rattle.session_model.specs.declared.event.Event.{Event}
+use Rattle.session_model.specs.declared.event.Event.TheVariants.{Text, Other, TaskEnd, End}
+use Rattle.session_model.specs.Alone.{Ending, ended, refused, spent, answers, ending}
+use Rattle.session_model.specs.Apply.{after_front}
+use Rattle.session_model.specs.Early.{early_pairs}
+
+-- ---- lines
+
+abbrev pub with_byte : ℕ → List (List ℕ) → List (List ℕ)
+with_byte b [] = (b ∷ []) ∷ []
+with_byte b (line ∷ more) = (b ∷ line) ∷ more
+
+abbrev pub with_line_byte : ℕ → List (List ℕ) → List (List ℕ)
+with_line_byte b more = if b == 10 then [] ∷ more else with_byte b more
+
+-- the lines, each ended by a line feed; a last one without it counts where it isn't empty
+abbrev pub lines_of : List ℕ → List (List ℕ)
+lines_of [] = []
+lines_of (b ∷ bs) = with_line_byte b (lines_of bs)
+
+-- the most bytes of a line, without its line feed
+abbrev pub line_limit : ℕ
+line_limit = 70000
+
+-- the most lines that are taken today
+abbrev pub line_count_limit : ℕ
+line_count_limit = 200
+
+abbrev pub is_space : ℕ → Bool
+is_space b = b == 32
+
+abbrev pub is_label_byte : ℕ → Bool
+is_label_byte b = is_ascii_alphanumeric b || (b == 95)
+
+-- 1 to 32 ASCII letters, digits and `_`
+abbrev pub is_label : List ℕ → Bool
+is_label name = nat_lt 0 (length name) && nat_le (length name) 32 && list_all is_label_byte name
+
+-- `S recv TEXT`: a client message for session S
+pub data Line : Type 0 where
+  recv : List ℕ → List ℕ → Line
+
+abbrev pub recv_of : List ℕ → Option (List ℕ) → Option Line
+recv_of label (Some text) = Some (recv label text)
+recv_of label None = None
+
+abbrev pub parts_of : List ℕ → List ℕ → Option Line
+parts_of label rest = if is_label label then recv_of label (after_front (codes "recv ") rest) else None
+
+-- what a line says; None where it has no such form
+abbrev pub line_of : List ℕ → Option Line
+line_of line = if nat_le (length line) line_limit && is_utf8 line then parts_of (before_first is_space line) (after_first is_space line) else None
+
+-- ---- output
+
+abbrev pub cause_name : BadMessage → List ℕ
+cause_name bad.TooLong = codes "TooLong"
+cause_name bad.NotJson = codes "NotJson"
+cause_name bad.NotObject = codes "NotObject"
+cause_name bad.NoMethod = codes "NoMethod"
+cause_name bad.BadMethod = codes "BadMethod"
+cause_name bad.NoData = codes "NoData"
+cause_name bad.EarlyUpdate = codes "EarlyUpdate"
+cause_name bad.SecondInit = codes "SecondInit"
+cause_name bad.Other = codes "Other"
+
+abbrev pub ending_text : Ending → List ℕ
+ending_text ended = codes "ended"
+ending_text (refused k cause) = codes "refused " ++ decimal k ++ codes " " ++ cause_name cause
+ending_text spent = codes "budget"
+
+-- `S send TEXT` for each text
+abbrev pub send_lines : List ℕ → List (List ℕ) → List ℕ
+send_lines label [] = []
+send_lines label (text ∷ more) = (label ++ codes " send " ++ text ++ codes "\n") ++ send_lines label more
+
+-- `S over REASON`, where the session has ended
+abbrev pub over_line : List ℕ → Option Ending → List ℕ
+over_line label None = []
+over_line label (Some end) = label ++ codes " over " ++ ending_text end ++ codes "\n"
+
+-- a session of the transcript, with its own journal
+pub record Open : Type 0 where
+  pub label : List ℕ
+  pub journal : List Event
+
+abbrev pub with_event : Event → Open → Open
+with_event event s = record s { journal = s.journal ++ event ∷ [] }
+
+-- what the answers to the longer journal add to those to the shorter one
+abbrev pub added_texts : Shape → List ℕ → List Event → List Event → List (List ℕ)
+added_texts app label journal longer = drop (length (answers app label journal)) (answers app label longer)
+
+-- what a session's event writes: the texts that it adds, then the over line where the session has ended
+abbrev pub event_output : Shape → Event → Open → List ℕ
+event_output app event s = send_lines s.label (added_texts app s.label s.journal (with_event event s).journal) ++ over_line s.label (ending app (with_event event s).journal)
+
+-- ---- the replay
+
+-- all lines were taken, or the first that was refused, by its number from 1
+pub data ReplayEnd : Type 0 where
+  done : ReplayEnd
+  bad_line : ℕ → ReplayEnd
+  no_session : ℕ → ReplayEnd
+
+pub record Replayed : Type 0 where
+  pub output : List ℕ
+  pub end : ReplayEnd
+
+abbrev pub stopped : ReplayEnd → Replayed
+stopped end = record { output = []; end = end }
+
+abbrev pub after_output : List ℕ → Replayed → Replayed
+after_output before r = record r { output = before ++ r.output }
+
+-- at the end of the input the links of the open sessions end
+abbrev pub closing_output : Shape → Open → Option Ending → List ℕ
+closing_output app s None = event_output app End s
+closing_output app s (Some end) = []
+
+abbrev pub closed : Shape → Option Open → Replayed
+closed app None = stopped done
+closed app (Some s) = record { output = closing_output app s (ending app s.journal); end = done }
+
+-- the first message of a label opens its session; today a transcript has one label
+abbrev pub opened : List ℕ → Option Open → Open
+opened label None = record { label = label; journal = [] }
+opened label (Some s) = s
+
+abbrev pub is_first : Option Open → Bool
+is_first None = true
+is_first (Some s) = false
+
+-- the session that a line's message is for has ended already, or takes it
+abbrev pub received : Shape → ℕ → Event → Open → Option Ending → (Option Open → Replayed) → Replayed
+received app k event s None next = after_output (event_output app event s) (next (Some (with_event event s)))
+received app k event s (Some end) next = stopped (no_session k)
+
+-- a message that has the form of today
+abbrev pub if_early : Shape → ℕ → List ℕ → Open → Option (List Pair) → (Option Open → Replayed) → Replayed
+if_early app k text s None next = stopped (bad_line k)
+if_early app k text s (Some pairs) next = received app k (Text text) s (ending app s.journal) next
+
+abbrev pub is_taken : ℕ → List ℕ → Open → Bool
+is_taken k label s = nat_le k line_count_limit && bytes_eq label s.label
+
+abbrev pub replay_line : Shape → ℕ → Option Open → Option Line → (Option Open → Replayed) → Replayed
+replay_line app k session None next = stopped (bad_line k)
+replay_line app k session (Some (recv label text)) next =
+    if is_taken k label (opened label session) then if_early app k text (opened label session) (early_pairs app (is_first session) text) next else stopped (bad_line k)
+
+-- these lines, the first of which has number k, where the session of the transcript has come so far
+abbrev pub replay_from : Shape → ℕ → Option Open → List (List ℕ) → Replayed
+replay_from app k session [] = closed app session
+replay_from app k session (line ∷ more) = replay_line app k session (line_of line) (λ next. replay_from app (suc k) next more)
+
+-- the output of a transcript's replay, and how it ends
+abbrev pub replayed : Shape → List ℕ → Replayed
+replayed app bytes = replay_from app 1 None (lines_of bytes)

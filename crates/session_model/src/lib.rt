@@ -1,0 +1,18 @@
+//! What a session is: its state, its runs and flushes, and all that it sends.
+//!
+//! This crate holds definitions. They say what a session does with no graph, no edge, no kept
+//! outcome of an expression and no cache: every value is evaluated afresh on the current values, and
+//! what depends on what is a flat list of source numbers. Everything above is proved to do the same.
+//! `docs/definitions.md` leads through them.
+#![tactic(auto)]
+
+mod event;
+mod examples;
+mod state;
+
+pub use event::Event;
+pub use examples::{
+    refuses_a_line, replays_a_transcript, shows_a_changed_input, shows_an_empty_app,
+    shows_an_equal_input,
+};
+pub use state::{Dependencies, ReaderState};
