@@ -1,0 +1,60 @@
+ghost use Rattle.std.specs.Prelude.{◌≡◌, map};
+ghost use Rattle.rx_value.specs.Value.{source_eq};
+ghost use Rattle.app_tree.specs.Current.{value_at};
+ghost use Rattle.session_model.specs.Change.{reaches, marked, change};
+ghost use Rattle.flush_cycle.specs.State.{state_of};
+
+use rx_value::{SourceValue, Value};
+use session_model::ReaderState;
+
+fn is_among(sources: &[u32], source: usize) -> bool
+    ensures { result ≡ reaches source sources.now }
+{
+    sources.iter().any(|reached| *reached as usize == source)
+}
+
+fn mark(reader: &mut ReaderState, source: usize)
+    ensures { reader.new ≡ marked source reader.old }
+{
+    if let Some(dependencies) = &mut reader.dependencies {
+        if is_among(dependencies.sources.as_slice(), source) {
+            dependencies.changed = true;
+        }
+    }
+}
+
+fn mark_all(readers: &mut Vec<ReaderState>, source: usize)
+    ensures { readers.new.items ≡ map (marked source) readers.old.items }
+{
+    for reader in readers.iter_mut() {
+        mark(reader, source);
+    }
+}
+
+fn is_value(values: &[SourceValue], source: usize, value: &SourceValue) -> bool
+    ensures { result ≡ source_eq (value_at values.now source) value.now }
+{
+    match values.get(source) {
+        Some(held) => held.same(value),
+        None => SourceValue::Plain(Value::Null).same(value),
+    }
+}
+
+/// Sets a source. An equal value does nothing; at another one each reader whose last run reached the
+/// source is no longer alive.
+pub fn change(
+    values: &mut Vec<SourceValue>,
+    readers: &mut Vec<ReaderState>,
+    source: usize,
+    value: SourceValue,
+)
+    ensures { state_of values.new.items readers.new.items ≡ change source value (state_of values.old.items readers.old.items) }
+{
+    if is_value(values.as_slice(), source, &value) {
+        return;
+    }
+    if source < values.len() {
+        values[source] = value;
+    }
+    mark_all(readers, source);
+}
