@@ -7,6 +7,8 @@
 
 mod batch;
 mod message;
+mod server;
 
 pub use batch::{Batch, BatchOutput, BatchOutputs, Messages};
 pub use message::{BadMessage, Client, ClientData, Pair};
+pub use server::{write_busy, write_config, write_progress, write_recalc};
