@@ -1,0 +1,3 @@
+mod Listed
+mod Removed
+mod Whole

@@ -8,7 +8,9 @@
 mod batch;
 mod message;
 mod server;
+mod values;
 
 pub use batch::{Batch, BatchOutput, BatchOutputs, Messages};
 pub use message::{BadMessage, Client, ClientData, Pair};
 pub use server::{write_busy, write_config, write_progress, write_recalc};
+pub use values::write_values;
