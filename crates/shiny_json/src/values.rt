@@ -1,5 +1,5 @@
 ghost use Rattle.std.specs.Prelude.{◌≡◌, IfOk, OnOk};
-ghost use Rattle.serde_json.specs.Data.{array, string};
+ghost use Rattle.serde_json.specs.Data.{array};
 ghost use Rattle.serde_json.specs.View.{view, members_view};
 ghost use Rattle.shiny_json.specs.Held.{entry_of, parts_of};
 ghost use Rattle.shiny_json.specs.Values.{failure_data, silent_data, image_data, plot_entry, value_entry, outcome_entry, no_parts, without, with_entry, with_outputs, numbers_items, value_data, input_message_data, input_messages_items, values_data, values_text};
@@ -39,12 +39,6 @@ fn silent_json(alloc: Global) -> Result<Json, AllocError>
     json!(in alloc; {"message": "", "type": ["shiny.silent.error"]})
 }
 
-fn text_json(alloc: Global, text: &RxText) -> Result<Json, AllocError>
-    ensures { IfOk result (λ j. view j ≡ string text.now) }
-{
-    Json::try_from_str(alloc, text.as_str())
-}
-
 fn image_json(alloc: Global, svg: &RxText) -> Result<Json, AllocError>
     ensures { IfOk result (λ j. view j ≡ image_data svg.now) }
 {
@@ -70,7 +64,7 @@ fn value_entry(alloc: Global, plot: bool, value: &Value) -> Result<OutputEntry, 
         plot_entry(alloc, value)
     } else {
         let text = show(alloc, value)?;
-        Ok(OutputEntry::Shown(text_json(alloc, &text)?))
+        Ok(OutputEntry::Shown(Json::try_from_str(alloc, text.as_str())?))
     }
 }
 
@@ -87,7 +81,8 @@ fn outcome_entry(alloc: Global, plot: bool, outcome: &Outcome) -> Result<OutputE
 }
 
 fn remove(members: &mut Map<String, Json>, name: &str)
-    ensures { members_view members.new.entries ≡ without name.now (members_view members.old.entries) }
+    ensures { members_view members.new.entries
+        ≡ without name.now (members_view members.old.entries) }
 {
     drop(members.remove(name));
 }
@@ -98,7 +93,8 @@ fn put_entry(
     name: &str,
     entry: OutputEntry,
 ) -> Result<(), Memory>
-    ensures { OnOk result (parts_of parts.new ≡ with_entry name.now (entry_of entry) (parts_of parts.old)) }
+    ensures { OnOk result
+        (parts_of parts.new ≡ with_entry name.now (entry_of entry) (parts_of parts.old)) }
 {
     match entry {
         OutputEntry::Shown(json) => {
@@ -114,7 +110,9 @@ fn put_entry(
 }
 
 fn put_output(alloc: Global, parts: &mut OutputParts, output: &BatchOutput) -> Result<(), Memory>
-    ensures { OnOk result (parts_of parts.new ≡ with_entry output.now.name (outcome_entry output.now.plot output.now.outcome) (parts_of parts.old)) }
+    ensures { OnOk result
+        (parts_of parts.new ≡ with_entry output.now.name
+        (outcome_entry output.now.plot output.now.outcome) (parts_of parts.old)) }
 {
     let entry = outcome_entry(alloc, output.plot, &output.outcome)?;
     put_entry(alloc, parts, output.name.as_str(), entry)
@@ -150,7 +148,7 @@ fn value_json(alloc: Global, value: &Value) -> Result<Json, AllocError>
         Value::Null => Ok(Json::Null),
         Value::Bool(truth) => Ok(Json::Bool(*truth)),
         Value::Int(number) => Ok(Json::from(*number)),
-        Value::Text(text) => text_json(alloc, text),
+        Value::Text(text) => Json::try_from_str(alloc, text.as_str()),
         Value::Ints(numbers) => numbers_json(alloc, numbers.as_slice()),
     }
 }
