@@ -1,0 +1,4 @@
+mod Listed
+mod Numbers
+mod Removed
+mod Whole

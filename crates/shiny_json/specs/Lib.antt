@@ -1,3 +1,4 @@
 pub mod Server
 pub mod Values
 pub mod Client
+pub mod Held

@@ -6,7 +6,13 @@
 #![tactic(auto)]
 
 mod batch;
+mod client;
 mod message;
+mod server;
+mod values;
 
 pub use batch::{Batch, BatchOutput, BatchOutputs, Messages};
+pub use client::{client_of, read_client};
 pub use message::{BadMessage, Client, ClientData, Pair};
+pub use server::{write_busy, write_config, write_progress, write_recalc};
+pub use values::write_values;

@@ -1,0 +1,7 @@
+use Rattle.std.proofs.Common.{ap, ◌∙◌}
+use Rattle.serde_json.specs.View.{members_view}
+use Rattle.shiny_json.proofs.Removed.{members_view-remove_entry}
+use Rattle.shiny_json.proofs.values.remove.Goals as goal
+
+pub returns : goal.returns
+returns c = ap members_view c.remove.ensures.entries ∙ members_view-remove_entry c.args.name.now c.args.members.now.entries
