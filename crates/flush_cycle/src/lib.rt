@@ -5,6 +5,7 @@
 //! read, and scans all outputs at each change.
 #![tactic(auto)]
 
+mod apply;
 mod change;
 mod names;
 mod start;
