@@ -1,2 +1,4 @@
 pub mod Sought
 pub mod Replaced
+pub mod Passing
+pub mod Going

@@ -7,5 +7,8 @@
 
 mod apply;
 mod change;
+mod flushing;
 mod names;
+mod running;
 mod start;
+mod waiting;

@@ -1,0 +1,195 @@
+-- A flush that has come so far: what it has left to do gives what the whole flush gives.
+use Rattle.std.proofs.Common.{◌≡◌, ℕ, zero, suc, ◌+◌, ◌-◌, ◌<◌, ◌≤◌, Bool, true, false, List, [], ◌∷◌, ◌++◌, length, take, drop, filter, map, Option, Some, None, refl, sym, ap, ◌∙◌, subst, arith, zero-add}
+use Rattle.std.specs.Prelude.{slice_get, slice_set, unwrap_or}
+use Rattle.std.proofs.lemmas.List.{length-set, take-set}
+use Rattle.std.proofs.lemmas.List.Elements.{filter-append}
+use Rattle.rx_value.specs.declared.outcome.Outcome.{Outcome}
+use Rattle.rx_value.specs.declared.source.SourceValue.{SourceValue}
+use Rattle.app_tree.specs.declared.term.Term.{Term}
+use Rattle.app_tree.specs.declared.term.Term.TheVariants as term
+use Rattle.app_tree.specs.Tree.{Node, text, Tree, Shape}
+use Rattle.app_tree.specs.View.{tree_of}
+use Rattle.app_tree.specs.Numbering.{is_reader, reader}
+use Rattle.app_tree.specs.Current.{told}
+use Rattle.app_tree.specs.Evaluate.{Evaluation, evaluate}
+use Rattle.app_tree.specs.Fresh.{IsolatedOutcomes, isolated_outcome, evaluate_node, fresh_evaluation, sources_asked}
+use Rattle.shiny_json.specs.declared.batch.BatchOutput.{BatchOutput}
+use Rattle.session_model.specs.declared.state.ReaderState.{ReaderState}
+use Rattle.session_model.specs.State.{SessionState, first_reader, isolated_of}
+use Rattle.session_model.specs.Run.{run_reader, forgotten}
+use Rattle.session_model.specs.Flush.{Run, FlushEnd, done, budget_spent, Flushed, flush_from, flush, flush_step, flush_end, waiting_from, next_waiting, with_last, run_of}
+use Rattle.session_model.specs.Texts.{name_at, batch_output, batch_outputs}
+use Rattle.flush_cycle.specs.State.{state_of}
+use Rattle.flush_cycle.specs.Passed.{IsPassed, WaitsAt, waits_at, Passed, passed_of, ran_reader, shown_output, body_outcome, plain_answers}
+use Rattle.flush_cycle.proofs.Passing.{split_at, waiting-found, none_before}
+
+pub record Going (app : Shape) (values : List SourceValue) (start readers : List ReaderState) (left : ℕ) (outputs : List BatchOutput) (place number : ℕ) : Type 0 where
+  pub passed : IsPassed app.items readers place number
+  pub runs : List Run
+  pub told : batch_outputs app runs ≡ outputs
+  pub rest : flush_from app left (state_of values readers) runs ≡ flush app (state_of values start)
+
+-- ---- one element of a list, changed by a function
+
+abbrev update : {A : Type 0} → ℕ → A → (A → A) → List A → List A
+update n d f xs = slice_set xs n (f (unwrap_or (slice_get xs n) d))
+
+update-update : {A : Type 0} (n : ℕ) (d : A) (f g : A → A) (xs : List A) → n < length xs → update n d g (update n d f xs) ≡ update n d (λ a. g (f a)) xs
+update-update n d f g [] h = absurd (omega (arith, h))
+update-update zero d f g (x ∷ xs) h = refl
+update-update (suc n) d f g (x ∷ xs) h = ap (λ l. x ∷ l) (update-update n d f g xs (omega (arith, h)))
+
+length-update : {A : Type 0} (n : ℕ) (d : A) (f : A → A) (xs : List A) → length (update n d f xs) ≡ length xs
+length-update n d f xs = length-set xs n (f (unwrap_or (slice_get xs n) d))
+
+update-thrice : {A : Type 0} (n : ℕ) (d : A) (f g h : A → A) (xs : List A) → n < length xs → update n d h (update n d g (update n d f xs)) ≡ update n d (λ a. h (g (f a))) xs
+update-thrice n d f g h xs lt =
+    let lt_then : n < length (update n d f xs) = omega (arith, length-update n d f xs, lt) in
+    update-update n d g h (update n d f xs) lt_then ∙ update-update n d f (λ a. h (g a)) xs lt
+
+-- the element behind a front
+slice_get-middle : {A : Type 0} (xs : List A) (x : A) (ys : List A) → slice_get (xs ++ x ∷ ys) (length xs) ≡ Some x
+slice_get-middle [] x ys = refl
+slice_get-middle (y ∷ xs) x ys = slice_get-middle xs x ys
+
+-- ---- a run
+
+-- no term of today asks a site
+plain_is : (body : Term) (values : List SourceValue) (sites : ℕ → Option Outcome) → evaluate (tree_of body) (record { read = told values; site = sites }) [] ≡ evaluate (tree_of body) (plain_answers values) []
+plain_is (term.Get r) values sites = refl
+
+evaluation_is : (app : Shape) (values : List SourceValue) (isolated : IsolatedOutcomes) (n : ℕ) (name : List ℕ) (body : Term) → reader app n ≡ Some (text name (tree_of body))
+    → fresh_evaluation app values isolated n ≡ evaluate (tree_of body) (plain_answers values) []
+evaluation_is app values isolated n name body e =
+    let sites : ℕ → Option Outcome = λ site. Some (isolated_outcome isolated n site) in
+    ap (λ i. evaluate_node i (record { read = told values; site = sites })) e ∙ plain_is body values sites
+
+abbrev after_evaluation : Evaluation → ReaderState → ReaderState
+after_evaluation e r = record { dependencies = Some (record { sources = sources_asked e.asked; changed = false }); isolated = []; shown = r.shown; last = Some e.outcome }
+
+-- the state after a run of reader n, whose outcome is its last
+run_is : (app : Shape) (values : List SourceValue) (readers : List ReaderState) (n : ℕ) (name : List ℕ) (body : Term) → reader app n ≡ Some (text name (tree_of body)) → n < length readers
+    → with_last n (run_reader app n (state_of values readers)) ≡ state_of values (slice_set readers n (ran_reader body values (unwrap_or (slice_get readers n) first_reader)))
+run_is app values readers n name body e lt =
+    let isolated = isolated_of (forgotten n (state_of values readers)) in
+    let seen = fresh_evaluation app values isolated n in
+    let forget : ReaderState → ReaderState = λ r. record r { isolated = [] } in
+    let depend : ReaderState → ReaderState = λ r. record r { dependencies = Some (record { sources = sources_asked seen.asked; changed = false }) } in
+    let keep : ReaderState → ReaderState = λ r. record r { last = Some seen.outcome } in
+    ap (state_of values) (update-thrice n first_reader forget depend keep readers lt
+    ∙ ap (λ e'. slice_set readers n (after_evaluation e' (unwrap_or (slice_get readers n) first_reader))) (evaluation_is app values isolated n name body e))
+
+outcome_is : (app : Shape) (values : List SourceValue) (readers : List ReaderState) (n : ℕ) (name : List ℕ) (body : Term) → reader app n ≡ Some (text name (tree_of body))
+    → (run_reader app n (state_of values readers)).outcome ≡ body_outcome body values
+outcome_is app values readers n name body e = ap (λ seen. seen.outcome) (evaluation_is app values (isolated_of (forgotten n (state_of values readers))) n name body e)
+
+-- ---- the end
+
+flush_done : (app : Shape) (left : ℕ) (state : SessionState) (runs : List Run) → next_waiting app state ≡ None → flush_from app left state runs ≡ record { state = state; runs = runs; end = done }
+flush_done app zero state runs e = ap (λ o. record { state = state; runs = runs; end = flush_end o }) e
+flush_done app (suc left) state runs e = ap (flush_step app (flush_from app left) state runs) e
+
+passed_is : (app : Shape) (state : SessionState) (runs : List Run) (end : FlushEnd) (outputs : List BatchOutput) → batch_outputs app runs ≡ outputs
+    → passed_of app (record { state = state; runs = runs; end = end }) ≡ record { state = state; outputs = outputs; end = end }
+passed_is app state runs end outputs e = ap (λ o. record { state = state; outputs = o; end = end }) e
+
+-- nothing waits any more
+pub all_done : (app : Shape) (values : List SourceValue) (start readers : List ReaderState) (left : ℕ) (outputs : List BatchOutput) (place number : ℕ) → Going app values start readers left outputs place number
+    → next_waiting app (state_of values readers) ≡ None → passed_of app (flush app (state_of values start)) ≡ record { state = state_of values readers; outputs = outputs; end = done }
+all_done app values start readers left outputs place number g e =
+    ap (passed_of app) (sym g.rest ∙ flush_done app left (state_of values readers) g.runs e) ∙ passed_is app (state_of values readers) g.runs done outputs g.told
+
+-- one still waits, and nothing is left of the budget
+pub all_spent : (app : Shape) (values : List SourceValue) (start readers : List ReaderState) (left : ℕ) (outputs : List BatchOutput) (place number n : ℕ) → Going app values start readers left outputs place number
+    → left ≡ 0 → next_waiting app (state_of values readers) ≡ Some n → passed_of app (flush app (state_of values start)) ≡ record { state = state_of values readers; outputs = outputs; end = budget_spent }
+all_spent app values start readers left outputs place number n g none e =
+    let state = state_of values readers in
+    let last : flush_from app left state g.runs ≡ record { state = state; runs = g.runs; end = budget_spent } =
+    ap (λ k. flush_from app k state g.runs) none ∙ ap (λ o. record { state = state; runs = g.runs; end = flush_end o }) e in
+    ap (passed_of app) (sym g.rest ∙ last) ∙ passed_is app state g.runs budget_spent outputs g.told
+
+-- ---- one more run
+
+-- the readers, round the one that waits
+readers_round : (items : List Node) (p : ℕ) (name : List ℕ) (body : Tree) → slice_get items p ≡ Some (text name body) → filter is_reader items ≡ filter is_reader (take p items) ++ text name body ∷ filter is_reader (drop (suc p) items)
+readers_round items p name body e = ap (filter is_reader) (split_at items p (text name body) e) ∙ filter-append is_reader (take p items) (text name body ∷ drop (suc p) items)
+
+pub next_is : (app : Shape) (values : List SourceValue) (readers : List ReaderState) (p n : ℕ) (name : List ℕ) (body : Term) → IsPassed app.items readers p n → WaitsAt app.items readers p n name body
+    → next_waiting app (state_of values readers) ≡ Some n
+next_is app values readers p n name body passed waits =
+    let before = filter is_reader (take p app.items) in
+    ap (λ l. waiting_from 0 l readers) (readers_round app.items p name (tree_of body) waits.item)
+    ∙ waiting-found 0 before name (tree_of body) (filter is_reader (drop (suc p) app.items)) readers (none_before app.items readers p n passed) (ap (waits_at readers) passed.counted ∙ waits.waits)
+    ∙ ap Some (zero-add (length before) ∙ passed.counted)
+
+reader_is : (app : Shape) (readers : List ReaderState) (p n : ℕ) (name : List ℕ) (body : Term) → IsPassed app.items readers p n → WaitsAt app.items readers p n name body → reader app n ≡ Some (text name (tree_of body))
+reader_is app readers p n name body passed waits =
+    let before = filter is_reader (take p app.items) in
+    ap (λ l. slice_get l n) (readers_round app.items p name (tree_of body) waits.item) ∙ ap (slice_get (before ++ text name (tree_of body) ∷ filter is_reader (drop (suc p) app.items))) (sym passed.counted)
+    ∙ slice_get-middle before (text name (tree_of body)) (filter is_reader (drop (suc p) app.items))
+
+pub waits_within : (readers : List ReaderState) (n : ℕ) → waits_at readers n ≡ true → n < length readers
+waits_within [] n e = cc
+waits_within (r ∷ readers) zero e = omega arith
+waits_within (r ∷ readers) (suc n) e = let less = waits_within readers n e in omega (arith, less)
+
+batch_outputs-append : (app : Shape) (runs : List Run) (run : Run) → batch_outputs app (runs ++ run ∷ []) ≡ batch_outputs app runs ++ batch_output app run ∷ []
+batch_outputs-append app [] run = refl
+batch_outputs-append app (other ∷ runs) run = ap (λ l. batch_output app other ∷ l) (batch_outputs-append app runs run)
+
+flush_more : (app : Shape) (left n : ℕ) (state : SessionState) (runs : List Run) → 0 < left → next_waiting app state ≡ Some n
+    → flush_from app left state runs ≡ flush_from app (left - 1) (with_last n (run_reader app n state)) (runs ++ run_of n (run_reader app n state) ∷ [])
+flush_more app zero n state runs h e = absurd (omega (arith, h))
+flush_more app (suc left) n state runs h e =
+    let same : suc left - 1 ≡ left = omega arith in
+    ap (flush_step app (flush_from app left) state runs) e ∙ sym (ap (λ k. flush_from app k (with_last n (run_reader app n state)) (runs ++ run_of n (run_reader app n state) ∷ [])) same)
+
+-- the state of the reader at the place doesn't matter to those before it
+passed_with : (items : List Node) (readers : List ReaderState) (p n : ℕ) (r : ReaderState) → IsPassed items readers p n → IsPassed items (slice_set readers n r) p n
+passed_with items readers p n r h = record {
+  counted = h.counted;
+  within = h.within;
+  none_waits = ap (waiting_from 0 (filter is_reader (take p items))) (take-set readers n r) ∙ h.none_waits;
+}
+
+-- one that waits was run
+pub one_more : (app : Shape) (values : List SourceValue) (start readers : List ReaderState) (left : ℕ) (outputs : List BatchOutput) (place number : ℕ) (name : List ℕ) (body : Term)
+    → Going app values start readers left outputs place number → 0 < left → (p n : ℕ) → IsPassed app.items readers p n → WaitsAt app.items readers p n name body
+    → Going app values start (slice_set readers n (ran_reader body values (unwrap_or (slice_get readers n) first_reader))) (left - 1) (outputs ++ shown_output name body values ∷ []) p n
+one_more app values start readers left outputs place number name body g some p n passed waits =
+    let state = state_of values readers in
+    let after = ran_reader body values (unwrap_or (slice_get readers n) first_reader) in
+    let at = reader_is app readers p n name body passed waits in
+    let run : Run = record { number = n; outcome = body_outcome body values } in
+    let run_same : run_of n (run_reader app n state) ≡ run = ap (λ o. let r : Run = record { number = n; outcome = o } in r) (outcome_is app values readers n name body at) in
+    let state_same = run_is app values readers n name body at (waits_within readers n waits.waits) in
+    let told_same : batch_output app run ≡ shown_output name body values = ap (λ i. let o : BatchOutput = record { name = name_at i; plot = false; outcome = body_outcome body values } in o) at in
+    record {
+      passed = passed_with app.items readers p n after passed;
+      runs = g.runs ++ run ∷ [];
+      told = batch_outputs-append app g.runs run ∙ ap (λ l. l ++ batch_output app run ∷ []) g.told ∙ ap (λ o. outputs ++ o ∷ []) told_same;
+      rest = ap (λ s. flush_from app (left - 1) s (g.runs ++ run ∷ [])) (sym state_same) ∙ ap (λ r. flush_from app (left - 1) (with_last n (run_reader app n state)) (g.runs ++ r ∷ [])) (sym run_same)
+          ∙ sym (flush_more app left n state g.runs some (next_is app values readers p n name body passed waits)) ∙ g.rest;
+    }
+
+-- ---- the same, of lists that are equal to those
+
+pub passed_of_slices : (items items' : List Node) (readers readers' : List ReaderState) (p n : ℕ) → items' ≡ items → readers' ≡ readers → IsPassed items' readers' p n → IsPassed items readers p n
+passed_of_slices items items' readers readers' p n e f h =
+    let over_items : List Node → Type 0 = λ i. IsPassed i readers p n in
+    let over_readers : List ReaderState → Type 0 = λ r. IsPassed items' r p n in
+    subst over_items e (subst over_readers f h)
+
+pub waits_of_slices : (items items' : List Node) (readers readers' : List ReaderState) (p n : ℕ) (name : List ℕ) (body : Term) → items' ≡ items → readers' ≡ readers → WaitsAt items' readers' p n name body
+    → WaitsAt items readers p n name body
+waits_of_slices items items' readers readers' p n name body e f h =
+    let over_items : List Node → Type 0 = λ i. WaitsAt i readers p n name body in
+    let over_readers : List ReaderState → Type 0 = λ r. WaitsAt items' r p n name body in
+    subst over_items e (subst over_readers f h)
+
+pub going_with : (app : Shape) (values : List SourceValue) (start readers readers' : List ReaderState) (left : ℕ) (outputs outputs' : List BatchOutput) (place number : ℕ) → readers' ≡ readers → outputs' ≡ outputs
+    → Going app values start readers left outputs place number → Going app values start readers' left outputs' place number
+going_with app values start readers readers' left outputs outputs' place number e f g =
+    let over_readers : List ReaderState → Type 0 = λ r. Going app values start r left outputs place number in
+    let over_outputs : List BatchOutput → Type 0 = λ o. Going app values start readers' left o place number in
+    subst over_outputs (sym f) (subst over_readers (sym e) g)

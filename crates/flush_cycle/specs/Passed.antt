@@ -1,0 +1,73 @@
+-- What one run makes of a reader, and what a flush has come to, in the Flusher's own lists.
+use Rattle.std.specs.Prelude.{◌≡◌, ℕ, ◌≤◌, Bool, true, false, not, ◌&&◌, List, [], ◌∷◌, filter, take, length, Option, Some, None, slice_get, if◌then◌else◌}
+use Rattle.rx_value.specs.declared.outcome.Outcome.{Outcome}
+use Rattle.rx_value.specs.declared.source.SourceValue.{SourceValue}
+use Rattle.app_tree.specs.declared.term.Term.{Term}
+use Rattle.app_tree.specs.Tree.{Node, text, Shape}
+use Rattle.app_tree.specs.View.{tree_of}
+use Rattle.app_tree.specs.Numbering.{is_reader}
+use Rattle.app_tree.specs.Current.{told}
+use Rattle.app_tree.specs.Evaluate.{Answers, evaluate}
+use Rattle.app_tree.specs.Fresh.{sources_asked}
+use Rattle.shiny_json.specs.declared.batch.BatchOutput.{BatchOutput}
+use Rattle.session_model.specs.declared.state.ReaderState.{ReaderState}
+use Rattle.session_model.specs.State.{SessionState, is_alive}
+use Rattle.session_model.specs.Flush.{waiting_from, FlushEnd, done, budget_spent, Flushed}
+use Rattle.session_model.specs.Texts.{batch_outputs}
+
+-- no term of today has an isolated site
+abbrev pub plain_answers : List SourceValue → Answers
+plain_answers values = record { read = told values; site = λ site. None }
+
+abbrev pub body_outcome : Term → List SourceValue → Outcome
+body_outcome body values = (evaluate (tree_of body) (plain_answers values) []).outcome
+
+abbrev pub body_sources : Term → List SourceValue → List ℕ
+body_sources body values = sources_asked (evaluate (tree_of body) (plain_answers values) []).asked
+
+abbrev pub ran_reader : Term → List SourceValue → ReaderState → ReaderState
+ran_reader body values r = record {
+  dependencies = Some (record { sources = body_sources body values; changed = false });
+  isolated = [];
+  shown = r.shown;
+  last = Some (body_outcome body values);
+}
+
+-- what the values text tells of a run
+abbrev pub shown_output : List ℕ → Term → List SourceValue → BatchOutput
+shown_output name body values = record { name = name; plot = false; outcome = body_outcome body values }
+
+-- ---- where a flush stands
+
+abbrev pub waits : Option ReaderState → Bool
+waits None = false
+waits (Some r) = r.shown && not (is_alive r)
+
+-- whether an output of this number waits
+abbrev pub waits_at : List ReaderState → ℕ → Bool
+waits_at readers n = waits (slice_get readers n)
+
+-- the readers among the items before this place are as many as the number says, and none of them waits
+pub record IsPassed (items : List Node) (readers : List ReaderState) (place number : ℕ) : Type 0 where
+  pub counted : length (filter is_reader (take place items)) ≡ number
+  pub within : number ≤ place
+  pub none_waits : waiting_from 0 (filter is_reader (take place items)) (take number readers) ≡ None
+
+-- at this place stands an output of this name and term, which waits
+pub record WaitsAt (items : List Node) (readers : List ReaderState) (place number : ℕ) (name : List ℕ) (body : Term) : Type 0 where
+  pub item : slice_get items place ≡ Some (text name (tree_of body))
+  pub waits : waits_at readers number ≡ true
+
+-- ---- what a flush has come to
+
+abbrev pub end_of : Bool → FlushEnd
+end_of spent = if spent then budget_spent else done
+
+-- the state, the outcomes that the values text tells, and the end
+pub record Passed : Type 0 where
+  pub state : SessionState
+  pub outputs : List BatchOutput
+  pub end : FlushEnd
+
+abbrev pub passed_of : Shape → Flushed → Passed
+passed_of app flushed = record { state = flushed.state; outputs = batch_outputs app flushed.runs; end = flushed.end }
