@@ -2,3 +2,4 @@ pub mod Sought
 pub mod Replaced
 pub mod Passing
 pub mod Going
+pub mod Sending

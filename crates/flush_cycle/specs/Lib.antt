@@ -1,2 +1,4 @@
 pub mod State
 pub mod Passed
+pub mod Sent
+pub mod Flushing

@@ -7,8 +7,18 @@
 
 mod apply;
 mod change;
+mod event;
+mod flushed;
+mod flusher;
 mod flushing;
 mod names;
 mod running;
+mod stage;
 mod start;
+mod texts;
 mod waiting;
+
+pub use flushed::Flushed;
+pub use flusher::Flusher;
+pub use stage::Stage;
+pub use texts::Texts;

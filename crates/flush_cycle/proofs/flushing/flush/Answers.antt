@@ -12,7 +12,7 @@ returns-then-left-eq0 c =
     let passed = passed_of_slices app.items _ readers _ w.place w.number same_items c.as_slice.ensures.value c.in-Some.ensures.passed in
     let waits = waits_of_slices app.items _ readers _ w.place w.number w.name.now w.body.now same_items c.as_slice.ensures.value c.in-Some.ensures.waits in
     all_spent app c.args.values.now c.args.readers.now.items readers c.loop-waiting.left c.loop-waiting.outputs c.loop-waiting.place c.loop-waiting.number w.number c.loop-waiting.invariant c.if-left-eq0.true
-        (next_is app c.args.values.now readers w.place w.number w.name.now w.body.now passed waits)
+    (next_is app c.args.values.now readers w.place w.number w.name.now w.body.now passed waits)
 
 pub run_waiting-requires : goal.run_waiting-requires
 run_waiting-requires c =

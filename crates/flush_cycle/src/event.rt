@@ -1,0 +1,62 @@
+ghost use Rattle.std.specs.Prelude.{◌≡◌, IfOk};
+ghost use Rattle.app_tree.specs.View.{shape_of};
+ghost use Rattle.session_model.specs.Alone.{applied};
+ghost use Rattle.session_model.specs.Texts.{first_texts, later_texts};
+ghost use Rattle.flush_cycle.specs.State.{state_of};
+ghost use Rattle.flush_cycle.specs.Passed.{passed_of, end_of};
+ghost use Rattle.flush_cycle.specs.Sent.{Sends};
+
+use crate::apply::apply_pairs;
+use crate::flushing::{Pass, flush};
+use crate::texts::{Sent, first_texts, later_texts};
+use app_tree::App;
+use rx_value::{Memory, RxText, SourceValue};
+use session_model::ReaderState;
+use shiny_json::Pair;
+use std::alloc::Global;
+
+fn apply_and_flush(
+    alloc: Global,
+    app: &App,
+    values: &mut Vec<SourceValue>,
+    readers: &mut Vec<ReaderState>,
+    pairs: &[Pair],
+) -> Result<Pass, Memory>
+    ensures { IfOk result (λ p. passed_of (shape_of app.now) (applied (shape_of app.now) pairs.now (state_of values.old.items readers.old.items)) ≡ record { state = state_of values.new.items readers.new.items; outputs = p.outputs; end = end_of p.spent }) }
+{
+    apply_pairs(alloc, app, values, readers, pairs)?;
+    flush(alloc, app, values.as_slice(), readers)
+}
+
+/// The first event of a session, which sends its texts whatever runs.
+pub fn first_event(
+    alloc: Global,
+    app: &App,
+    values: &mut Vec<SourceValue>,
+    readers: &mut Vec<ReaderState>,
+    label: &RxText,
+    pairs: &[Pair],
+) -> Result<Sent, Memory>
+    ensures { IfOk result (λ sent. let f = applied (shape_of app.now) pairs.now (state_of values.old.items readers.old.items) in Sends (first_texts (shape_of app.now) label.now f) f (state_of values.new.items readers.new.items) sent) }
+{
+    let pass = apply_and_flush(alloc, app, values, readers, pairs)?;
+    let spent = pass.spent;
+    let texts = first_texts(alloc, label, pass)?;
+    Ok(Sent { texts, spent })
+}
+
+/// A later event, which sends nothing where nothing ran and the session goes on.
+pub fn later_event(
+    alloc: Global,
+    app: &App,
+    values: &mut Vec<SourceValue>,
+    readers: &mut Vec<ReaderState>,
+    pairs: &[Pair],
+) -> Result<Sent, Memory>
+    ensures { IfOk result (λ sent. let f = applied (shape_of app.now) pairs.now (state_of values.old.items readers.old.items) in Sends (later_texts (shape_of app.now) f) f (state_of values.new.items readers.new.items) sent) }
+{
+    let pass = apply_and_flush(alloc, app, values, readers, pairs)?;
+    let spent = pass.spent;
+    let texts = later_texts(alloc, pass)?;
+    Ok(Sent { texts, spent })
+}
