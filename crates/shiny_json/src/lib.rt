@@ -9,6 +9,8 @@ mod batch;
 mod client;
 mod message;
 mod server;
+#[cfg(test)]
+mod tests;
 mod values;
 
 pub use batch::{Batch, BatchOutput, BatchOutputs, Messages};

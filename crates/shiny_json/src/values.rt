@@ -157,7 +157,7 @@ fn input_message_json(alloc: Global, message: &Pair) -> Result<Json, AllocError>
     ensures { IfOk result (λ j. view j ≡ input_message_data message.now) }
 {
     let value = value_json(alloc, &message.value)?;
-    json!(in alloc; {"id": (message.name.as_str()), "message": {"value": value}})
+    json!(in alloc; {"id": message.name.as_str(), "message": {"value": value}})
 }
 
 fn input_messages_json(alloc: Global, messages: &[Pair]) -> Result<Json, AllocError>
@@ -174,7 +174,7 @@ fn values_json(alloc: Global, parts: OutputParts, messages: &[Pair]) -> Result<J
     ensures { IfOk result (λ j. view j ≡ values_data (parts_of parts) messages.now) }
 {
     let messages = input_messages_json(alloc, messages)?;
-    json!(in alloc; {"errors": (parts.errors), "inputMessages": messages, "values": (parts.values)})
+    json!(in alloc; {"errors": parts.errors, "inputMessages": messages, "values": parts.values})
 }
 
 /// The text of a flush: for each output that ran its value or its error, of several runs of one
