@@ -4,6 +4,8 @@ use Rattle.rx_ports.specs.Faults.{Plan, next_fails, after_call}
 use Rattle.rx_ports.specs.declared.files.NamedFile.{NamedFile}
 use Rattle.rx_ports.specs.declared.files.FileRead.{FileRead}
 use Rattle.rx_ports.specs.declared.files.FileRead.TheVariants as read
+use Rattle.rx_ports.specs.declared.sink.Put.{Put}
+use Rattle.rx_ports.specs.declared.sink.Put.TheVariants as put
 use Rattle.rx_ports.specs.declared.source.Take.{Take}
 use Rattle.rx_ports.specs.declared.source.Take.TheVariants as taken
 
@@ -61,6 +63,10 @@ pub record SinkState : Type 0 where
   pub held : List ℕ
   pub room : ℕ
   pub plan : Plan
+
+abbrev pub is_failed_put : Put → Bool
+is_failed_put put.Failed = true
+is_failed_put put.Ok = false
 
 -- whether a put of these bytes fails: the plan says so, or they are more than fit
 abbrev pub next_put_fails : SinkState → List ℕ → Bool

@@ -23,3 +23,6 @@ pub use mem_sink::MemSink;
 pub use mem_source::MemSource;
 pub use sink::{Put, Sink};
 pub use source::{Source, Take};
+
+#[cfg(test)]
+mod tests;

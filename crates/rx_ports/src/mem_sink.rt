@@ -1,7 +1,7 @@
 ghost use Rattle.std.specs.Prelude.{◌≡◌, ℕ, ◌≤◌, ◌+◌, min, take, [], ◌++◌, length, vec_len, vec_capacity, IfOk, OnOk, OnErr, Some};
 ghost use Rattle.rx_ports.specs.Faults.{no_faults};
 ghost use Rattle.rx_ports.specs.Sink.{PutGives, PutFaults};
-ghost use Rattle.rx_ports.specs.MemoryForms.{after_put};
+ghost use Rattle.rx_ports.specs.MemoryForms.{is_failed_put, next_put_fails, after_put};
 
 use crate::fault_plan::FaultPlan;
 use crate::sink::{Put, Sink};
@@ -80,6 +80,7 @@ impl Sink for MemSink {
         ensures gives { PutGives (Some self.old.held) (Some self.new.held) bytes.now result }
         ensures later { self.old.plan.faults ≤ self.new.plan.faults }
         ensures failed { PutFaults self.old.plan.faults self.new.plan.faults result }
+        ensures answer { is_failed_put result ≡ next_put_fails self.old bytes.now }
         ensures after { self.new ≡ after_put self.old bytes.now }
     {
         let planned = self.plan.next_fails();
