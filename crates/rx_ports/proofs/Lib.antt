@@ -1,0 +1,4 @@
+pub mod Contents
+pub mod FileLaws
+pub mod FileLemmas
+pub mod TakeLemmas
