@@ -45,19 +45,31 @@ length-take_while p (b ∷ bs) = rw (take_while-cons p b bs) (each (p b) (length
     each true le = omega arith
     each false le = omega arith
 
-not_plain_low : (bs : List ℕ) (n : ℕ) → begins_plain (drop n bs) ≡ false → n < length bs → get_or bs n 0 < 128
-not_plain_low [] n e lt = absurd (omega arith)
-not_plain_low (b ∷ bs) zero e lt = low b e
+-- a run of bytes ends at one that doesn't pass
+stops-take_while : (p : ℕ → Bool) (bs : List ℕ) → length (take_while p bs) < length bs → p (get_or bs (length (take_while p bs)) 0) ≡ false
+stops-take_while p [] lt = absurd (omega arith)
+stops-take_while p (b ∷ bs) lt =
+    rw (take_while-cons p b bs) (each (p b) refl (rw (take_while-cons p b bs) at lt) (stops-take_while p bs))
   where
-    low : (x : ℕ) → is_plain x ≡ false → x < 128
-    low x h = grind arith
-not_plain_low (b ∷ bs) (suc n) e lt = not_plain_low bs n e (omega arith)
+    each : (t : Bool) → p b ≡ t → length (cond t (b ∷ take_while p bs) []) < length (b ∷ bs)
+        → (length (take_while p bs) < length bs → p (get_or bs (length (take_while p bs)) 0) ≡ false)
+        → p (get_or (b ∷ bs) (length (cond t (b ∷ take_while p bs) [])) 0) ≡ false
+    each true e lt more = more (omega arith)
+    each false e lt more = e
 
--- a text may be cut behind a run of plain bytes
+-- a text may be cut behind a run that goes on over every byte from 128 on
+pub IsCharBoundary-run : (p : ℕ → Bool) → ((x : ℕ) → p x ≡ false → x < 128) → (bs : List ℕ) → IsCharBoundary bs (length (take_while p bs))
+IsCharBoundary-run p low bs = (
+  length-take_while p bs,
+  λ lt high. absurd (omega (arith, low (get_or bs (length (take_while p bs)) 0) (stops-take_while p bs lt))),
+)
+
+plain_low : (x : ℕ) → is_plain x ≡ false → x < 128
+plain_low x e = grind arith
+
+-- so behind a run of plain bytes
 pub IsCharBoundary-plain : (bs : List ℕ) → IsCharBoundary bs (length (take_while is_plain bs))
-IsCharBoundary-plain bs =
-    (length-take_while is_plain bs,
-     λ lt high. absurd (omega (arith, not_plain_low bs (length (take_while is_plain bs)) (begins_plain-drop bs) lt)))
+IsCharBoundary-plain = IsCharBoundary-run is_plain plain_low
 
 none_true : (q s l : Bool) → not (q || s || l) ≡ true → (q ≡ false) × (s ≡ false) × (l ≡ false)
 none_true true s l e = cc
@@ -84,10 +96,10 @@ text_from-run whole quote place value (b ∷ bs) =
   where
     each : (t : Bool) → is_plain b ≡ t
         → ((p : ℕ) (v : List ℕ) → text_from whole quote p v bs
-            ≡ text_from whole quote (p + length (take_while is_plain bs)) (v ++ take_while is_plain bs) (drop (length (take_while is_plain bs)) bs))
+        ≡ text_from whole quote (p + length (take_while is_plain bs)) (v ++ take_while is_plain bs) (drop (length (take_while is_plain bs)) bs))
         → text_from whole quote place value (b ∷ bs)
         ≡ text_from whole quote (place + length (cond t (b ∷ take_while is_plain bs) [])) (value ++ cond t (b ∷ take_while is_plain bs) [])
-            (drop (length (cond t (b ∷ take_while is_plain bs) [])) (b ∷ bs))
+        (drop (length (cond t (b ∷ take_while is_plain bs) [])) (b ∷ bs))
     each true e run =
         let more = take_while is_plain bs in
         text_from-plain whole quote place b value bs e ∙ run (place + 1) (value ++ b ∷ [])
@@ -114,7 +126,7 @@ text_from-pair whole quote place value (b ∷ []) e = each (nat_eq b 34) (nat_eq
   where
     each : (q s l : Bool) → not (q || s || l) ≡ false
         → choose q (λ v. Ok (v, place + 1)) (choose s (λ v. cut_off whole quote place)
-            (choose l (λ v. Err (BadByte place)) (λ v. text_from whole quote (place + 1) (v ++ b ∷ []) []))) value
+        (choose l (λ v. Err (BadByte place)) (λ v. text_from whole quote (place + 1) (v ++ b ∷ []) []))) value
         ≡ ((if q then Ok None else (if s then cut_off whole quote place else Err (BadByte place))) >>= behind whole quote place value (b ∷ []))
     each true s l e = refl
     each false true l e = cut_off-behind whole quote place value (b ∷ [])
@@ -124,10 +136,10 @@ text_from-pair whole quote place value (b ∷ c ∷ bs) e = each (nat_eq b 34) (
   where
     each : (q s l p : Bool) → not (q || s || l) ≡ false
         → choose q (λ v. Ok (v, place + 1)) (choose s
-            (choose p (λ v. text_from whole quote (place + 2) (v ++ meaning_of c ∷ []) bs) (λ v. Err (BadByte place)))
-            (choose l (λ v. Err (BadByte place)) (λ v. text_from whole quote (place + 1) (v ++ b ∷ []) (c ∷ bs)))) value
+        (choose p (λ v. text_from whole quote (place + 2) (v ++ meaning_of c ∷ []) bs) (λ v. Err (BadByte place)))
+        (choose l (λ v. Err (BadByte place)) (λ v. text_from whole quote (place + 1) (v ++ b ∷ []) (c ∷ bs)))) value
         ≡ ((if q then Ok None else (if s then (if p then Ok (Some (meaning_of c)) else Err (BadByte place)) else Err (BadByte place)))
-            >>= behind whole quote place value (b ∷ c ∷ bs))
+        >>= behind whole quote place value (b ∷ c ∷ bs))
     each true s l p e = refl
     each false true l true e = refl
     each false true l false e = refl
@@ -137,8 +149,8 @@ text_from-pair whole quote place value (b ∷ c ∷ bs) e = each (nat_eq b 34) (
 -- a run of plain bytes, and what follows it
 pub text_from-turn : (whole : Bool) (quote place : ℕ) (value bs : List ℕ)
     → let plain = take_while is_plain bs in let after = drop (length plain) bs in
-      text_from whole quote place value bs
-      ≡ (pair_of whole quote (place + length plain) after >>= behind whole quote (place + length plain) (value ++ plain) after)
+    text_from whole quote place value bs
+    ≡ (pair_of whole quote (place + length plain) after >>= behind whole quote (place + length plain) (value ++ plain) after)
 text_from-turn whole quote place value bs =
     let plain = take_while is_plain bs in
     text_from-run whole quote place value bs
@@ -150,14 +162,14 @@ pub turn : (whole : Bool) (quote : ℕ) (inside value rest after : List ℕ) (to
     → after ≡ drop (length (take_while is_plain rest)) rest
     → text_from whole quote (quote + 1 + (length inside - length rest)) value rest ≡ total
     → total ≡ (pair_of whole quote (quote + 1 + (length inside - length after)) after
-        >>= behind whole quote (quote + 1 + (length inside - length after)) (value ++ take_while is_plain rest) after)
+    >>= behind whole quote (quote + 1 + (length inside - length after)) (value ++ take_while is_plain rest) after)
 turn whole quote inside value rest after total within is said =
     let plain = take_while is_plain rest in
     let P : ℕ → Type 0 = λ p. total ≡ (pair_of whole quote p after >>= behind whole quote p (value ++ plain) after) in
     let Q : List ℕ → Type 0 = λ a. total ≡ (pair_of whole quote (quote + 1 + (length inside - length rest) + length plain) a
-        >>= behind whole quote (quote + 1 + (length inside - length rest) + length plain) (value ++ plain) a) in
+    >>= behind whole quote (quote + 1 + (length inside - length rest) + length plain) (value ++ plain) a) in
     subst P (omega (arith, length-take_while is_plain rest, length-drop (length plain) rest, ap length is))
-      (subst Q (sym is) (sym said ∙ text_from-turn whole quote (quote + 1 + (length inside - length rest)) value rest))
+    (subst Q (sym is) (sym said ∙ text_from-turn whole quote (quote + 1 + (length inside - length rest)) value rest))
 
 -- the turn ends in a refusal
 pub turn_fails : (whole : Bool) (quote place : ℕ) (value after : List ℕ) (e : TokenError) (total : Result (List ℕ × ℕ) TokenError)
@@ -182,11 +194,11 @@ text_piece-fails whole quote inside value rest after bytes e r within is said sa
     let p = err_from_is_err_and r gives in
     let P : List ℕ → Type 0 = λ bs. pair_of whole quote (quote + 1 + (length inside - length after)) bs ≡ Err e in
     let failed = turn_fails whole quote (quote + 1 + (length inside - length after)) (value ++ take_while is_plain rest) after e
-        (text_from whole quote (quote + 1) [] inside)
-        (turn whole quote inside value rest after (text_from whole quote (quote + 1) [] inside) within is said)
-        (subst P same (sym pair)) in
+    (text_from whole quote (quote + 1) [] inside)
+    (turn whole quote inside value rest after (text_from whole quote (quote + 1) [] inside) within is said)
+    (subst P same (sym pair)) in
     Answers-from r (text_from whole quote (quote + 1) [] inside >>= λ t. limited (t.1 - quote) t.0 quote)
-        (ap (λ (t : Result (List ℕ × ℕ) TokenError). t >>= λ t. limited (t.1 - quote) t.0 quote) failed ∙ sym (p.1 ∙ ap (λ y. Err y) p.2))
+    (ap (λ (t : Result (List ℕ × ℕ) TokenError). t >>= λ t. limited (t.1 - quote) t.0 quote) failed ∙ sym (p.1 ∙ ap (λ y. Err y) p.2))
 
 -- the text ends where the turn finds its closing quote
 pub text_piece-ends : (whole : Bool) (quote : ℕ) (inside value now rest after bytes : List ℕ) (r : Result Piece TokenError)
@@ -199,12 +211,12 @@ unfolding text_piece
 text_piece-ends whole quote inside value now rest after bytes r within is said pushed same pair gives =
     let P : List ℕ → Type 0 = λ bs. pair_of whole quote (quote + 1 + (length inside - length after)) bs ≡ Ok None in
     let ended = turn_gives whole quote (quote + 1 + (length inside - length after)) (value ++ take_while is_plain rest) after None
-        (text_from whole quote (quote + 1) [] inside)
-        (turn whole quote inside value rest after (text_from whole quote (quote + 1) [] inside) within is said)
-        (subst P same (sym pair)) in
+    (text_from whole quote (quote + 1) [] inside)
+    (turn whole quote inside value rest after (text_from whole quote (quote + 1) [] inside) within is said)
+    (subst P same (sym pair)) in
     Answers-from r (text_from whole quote (quote + 1) [] inside >>= λ t. limited (t.1 - quote) t.0 quote)
-        (ap (λ (t : Result (List ℕ × ℕ) TokenError). t >>= λ t. limited (t.1 - quote) t.0 quote) ended
-        ∙ sym (gives ∙ ap (λ v. limited (quote + 1 + (length inside - length after) + 1 - quote) v quote) pushed))
+    (ap (λ (t : Result (List ℕ × ℕ) TokenError). t >>= λ t. limited (t.1 - quote) t.0 quote) ended
+    ∙ sym (gives ∙ ap (λ v. limited (quote + 1 + (length inside - length after) + 1 - quote) v quote) pushed))
 
 -- what the loop keeps, behind a pair
 pub text_from-kept : (whole : Bool) (quote m : ℕ) (inside value now next rest after bytes more : List ℕ)
@@ -219,13 +231,15 @@ text_from-kept whole quote m inside value now next rest after bytes more within 
     let P : List ℕ → Type 0 = λ bs. pair_of whole quote (quote + 1 + (length inside - length after)) bs ≡ Ok (Some m) in
     let total = text_from whole quote (quote + 1) [] inside in
     let went = turn_gives whole quote (quote + 1 + (length inside - length after)) (value ++ take_while is_plain rest) after (Some m) total
-        (turn whole quote inside value rest after total within is said) (subst P same (sym pair)) in
+    (turn whole quote inside value rest after total within is said) (subst P same (sym pair)) in
     let le : length after ≤ length rest = omega (arith, ap length is, length-drop (length (take_while is_plain rest)) rest) in
     let some : 1 < length after = omega (arith, ap length same) in
     let fewer : length more + 2 ≡ length after = omega (arith, ap length behind, length-drop 2 after) in
-    let Q : ℕ → Type 0 = λ p. text_from whole quote p next more ≡ total in
-    (omega arith, omega arith,
-     subst Q (omega arith)
-       (ap (λ v. text_from whole quote (quote + 1 + (length inside - length after) + 2) v more) (again ∙ ap (λ v. v ++ m ∷ []) pushed)
-       ∙ ap (λ bs. text_from whole quote (quote + 1 + (length inside - length after) + 2) ((value ++ take_while is_plain rest) ++ m ∷ []) bs) behind
-       ∙ sym went))
+    let Q : ℕ → Type 0 = λ p. text_from whole quote p next more ≡ total in (
+      omega arith,
+      omega arith,
+      subst Q (omega arith)
+          (ap (λ v. text_from whole quote (quote + 1 + (length inside - length after) + 2) v more) (again ∙ ap (λ v. v ++ m ∷ []) pushed)
+          ∙ ap (λ bs. text_from whole quote (quote + 1 + (length inside - length after) + 2) ((value ++ take_while is_plain rest) ++ m ∷ []) bs) behind
+          ∙ sym went),
+    )

@@ -71,7 +71,7 @@ AreDigits digits = EachIndex digits (λ i. IsTrue (is_digit (slice_index digits 
 -- a number, which may be at most 9,223,372,036,854,775,807
 unfoldable pub number_piece : ℕ → List ℕ → Result Piece TokenError
 number_piece place digits =
-  choose (nat_le (value_after 0 digits) 9223372036854775807)
+    choose (nat_le (value_after 0 digits) 9223372036854775807)
     (λ ds. Ok (token (length ds) (kind.Number (value_after 0 ds)))) (λ ds. Err (BadByte place)) digits
 
 -- the bytes end inside a text: the text stays open, unless they end because the next byte is no UTF-8
@@ -89,16 +89,16 @@ meaning_of c = if nat_eq c (byte "n") then 10 else c
 unfoldable pub text_from : Bool → ℕ → ℕ → List ℕ → List ℕ → Result (List ℕ × ℕ) TokenError
 text_from whole quote place value [] = cut_off whole quote place
 text_from whole quote place value (b ∷ []) =
-  choose (nat_eq b (byte "\"")) (λ v. Ok (v, place + 1))
-  (choose (nat_eq b (byte "\\")) (λ v. cut_off whole quote place)
-  (choose (nat_lt b 32) (λ v. Err (BadByte place))
-  (λ v. text_from whole quote (place + 1) (v ++ b ∷ []) []))) value
+    choose (nat_eq b (byte "\"")) (λ v. Ok (v, place + 1))
+    (choose (nat_eq b (byte "\\")) (λ v. cut_off whole quote place)
+    (choose (nat_lt b 32) (λ v. Err (BadByte place))
+    (λ v. text_from whole quote (place + 1) (v ++ b ∷ []) []))) value
 text_from whole quote place value (b ∷ c ∷ rest) =
-  choose (nat_eq b (byte "\"")) (λ v. Ok (v, place + 1))
-  (choose (nat_eq b (byte "\\"))
+    choose (nat_eq b (byte "\"")) (λ v. Ok (v, place + 1))
+    (choose (nat_eq b (byte "\\"))
     (choose (is_pair c) (λ v. text_from whole quote (place + 2) (v ++ meaning_of c ∷ []) rest) (λ v. Err (BadByte place)))
-  (choose (nat_lt b 32) (λ v. Err (BadByte place))
-  (λ v. text_from whole quote (place + 1) (v ++ b ∷ []) (c ∷ rest)))) value
+    (choose (nat_lt b 32) (λ v. Err (BadByte place))
+    (λ v. text_from whole quote (place + 1) (v ++ b ∷ []) (c ∷ rest)))) value
 
 -- a whole text of so many bytes, whose value may have at most 65,536 bytes
 abbrev pub limited : ℕ → List ℕ → ℕ → Result Piece TokenError
@@ -108,23 +108,24 @@ limited size value quote = if nat_le (length value) 65536 then Ok (token size (k
 unfoldable pub text_piece : Bool → ℕ → List ℕ → Result Piece TokenError
 text_piece whole quote inside = text_from whole quote (quote + 1) [] inside >>= λ t. limited (t.1 - quote) t.0 quote
 
+-- the symbol that was found at a place, with its length
+abbrev pub found_symbol : ℕ → Option (Symbol × ℕ) → Result Piece TokenError
+found_symbol place None = Err (BadByte place)
+found_symbol place (Some s) = Ok (token s.1 (kind.Symbol s.0))
+
 unfoldable pub symbol_piece : ℕ → List ℕ → Result Piece TokenError
-symbol_piece place bytes = found (symbol_of bytes)
-  where
-    found : Option (Symbol × ℕ) → Result Piece TokenError
-    found None = Err (BadByte place)
-    found (Some s) = Ok (token s.1 (kind.Symbol s.0))
+symbol_piece place bytes = found_symbol place (symbol_of bytes)
 
 -- the piece that begins the bytes, which stand at this place
 unfoldable pub piece_of : Bool → ℕ → List ℕ → Result Piece TokenError
 piece_of whole place [] = Err (BadByte place)
 piece_of whole place (b ∷ bs) =
-  choose (is_blank b) (λ rest. Ok (gap 1))
-  (choose (nat_eq b (byte "#")) (λ rest. Ok (gap (length (take_while is_of_comment (b ∷ rest)))))
-  (choose (is_letter b) (λ rest. Ok (word_piece (take_while is_of_word (b ∷ rest))))
-  (choose (is_digit b) (λ rest. number_piece place (take_while is_digit (b ∷ rest)))
-  (choose (nat_eq b (byte "\"")) (λ rest. text_piece whole place rest)
-  (λ rest. symbol_piece place (b ∷ rest)))))) bs
+    choose (is_blank b) (λ rest. Ok (gap 1))
+    (choose (nat_eq b (byte "#")) (λ rest. Ok (gap (length (take_while is_of_comment (b ∷ rest)))))
+    (choose (is_letter b) (λ rest. Ok (word_piece (take_while is_of_word (b ∷ rest))))
+    (choose (is_digit b) (λ rest. number_piece place (take_while is_digit (b ∷ rest)))
+    (choose (nat_eq b (byte "\"")) (λ rest. text_piece whole place rest)
+    (λ rest. symbol_piece place (b ∷ rest)))))) bs
 
 -- a piece at this place with this spelling, as a list of one token, or of none
 abbrev pub listed : Option Kind → ℕ → List ℕ → List Token
@@ -136,16 +137,16 @@ unfoldable pub tokens_from : Bool → ℕ → ℕ → List ℕ → Result (List 
 tokens_from whole skipped place [] = if whole then Ok [] else Err (BadByte place)
 tokens_from whole (suc n) place (b ∷ bs) = tokens_from whole n (place + 1) bs
 tokens_from whole zero place (b ∷ bs) =
-  piece_of whole place (b ∷ bs) >>= λ p.
-  tokens_from whole (p.size - 1) (place + 1) bs >>= λ more.
-  Ok (listed p.kind place (take p.size (b ∷ bs)) ++ more)
+    piece_of whole place (b ∷ bs) >>= λ p.
+    tokens_from whole (p.size - 1) (place + 1) bs >>= λ more.
+    Ok (listed p.kind place (take p.size (b ∷ bs)) ++ more)
 
 -- the tokens of a file, or its first refusal: what stands before its first byte that is no UTF-8 is cut into tokens, and
 -- that byte is refused if nothing before it is
 unfoldable pub tokens_of : List ℕ → Result Tokens TokenError
 tokens_of bytes =
-  tokens_from (utf8_valid_len bytes == length bytes) 0 0 (take (utf8_valid_len bytes) bytes) >>= λ found.
-  Ok (record { tokens = found; end = length bytes })
+    tokens_from (utf8_valid_len bytes == length bytes) 0 0 (take (utf8_valid_len bytes) bytes) >>= λ found.
+    Ok (record { tokens = found; end = length bytes })
 
 -- the error is the refusal, unless it is want of memory
 abbrev pub Refuses : {A : Type 0} → TokenError → Result A TokenError → Type 0

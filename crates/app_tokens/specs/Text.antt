@@ -13,7 +13,7 @@ is_plain b = not (nat_eq b (byte "\"") || nat_eq b (byte "\\") || nat_lt b 32)
 unfoldable pub pair_of : Bool → ℕ → ℕ → List ℕ → Result (Option ℕ) TokenError
 pair_of whole quote place [] = cut_off whole quote place
 pair_of whole quote place (b ∷ []) =
-  if nat_eq b (byte "\"") then Ok None else (if nat_eq b (byte "\\") then cut_off whole quote place else Err (BadByte place))
+    if nat_eq b (byte "\"") then Ok None else (if nat_eq b (byte "\\") then cut_off whole quote place else Err (BadByte place))
 pair_of whole quote place (b ∷ c ∷ rest) =
-  if nat_eq b (byte "\"") then Ok None else (
-  if nat_eq b (byte "\\") then (if is_pair c then Ok (Some (meaning_of c)) else Err (BadByte place)) else Err (BadByte place))
+    if nat_eq b (byte "\"") then Ok None else (
+    if nat_eq b (byte "\\") then (if is_pair c then Ok (Some (meaning_of c)) else Err (BadByte place)) else Err (BadByte place))

@@ -78,7 +78,10 @@ fn digits_size(bytes: &[u8]) -> usize
 fn comment_size(bytes: &[u8]) -> usize
     ensures { result ≡ length (take_while is_of_comment bytes.now) }
 {
-    bytes.iter().take_while(|byte| is_of_comment(**byte)).count()
+    bytes
+        .iter()
+        .take_while(|byte| is_of_comment(**byte))
+        .count()
 }
 
 fn word_of(bytes: &[u8]) -> &[u8]
@@ -156,7 +159,12 @@ fn behind_quote(rest: &str) -> &str
 /// The piece that begins the rest of a file, which stands at `place`. `whole` says whether the rest
 /// ends with the file, and not because the next byte is no UTF-8.
 #[tactic(auto, unfolding(crate::specs::Scan::piece_of))]
-pub fn first_piece(alloc: Global, rest: &str, place: usize, whole: bool) -> Result<Piece, TokenError>
+pub fn first_piece(
+    alloc: Global,
+    rest: &str,
+    place: usize,
+    whole: bool,
+) -> Result<Piece, TokenError>
     requires { place + length rest.now < 2 ^ 63 }
     ensures { Answers result (piece_of whole place rest.now) }
 {

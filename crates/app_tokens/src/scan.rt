@@ -1,12 +1,13 @@
 //! A file from its first byte to its last.
 
-ghost use Rattle.std.specs.Prelude.{◌≡◌, ◌<◌, ◌+◌, ◌++◌, ◌^◌, length, take, Ok, Err, IfOk, IfErr, OnOk};
+ghost use Rattle.std.specs.Prelude.{◌≡◌, ◌<◌, ◌+◌, ◌++◌, ◌^◌, length, take, Ok, Err, true, IfOk, IfErr, OnOk};
 ghost use Rattle.app_tokens.specs.Scan.{Refuses, listed, tokens_from, tokens_of};
 
 use crate::error::TokenError;
 use crate::list::TokenList;
 use crate::piece::first_piece;
 use crate::token::{Kind, Spelling, Token};
+use rx_value::Memory;
 use std::alloc::Global;
 use std::str;
 
@@ -15,16 +16,19 @@ fn push_token<'a>(
     kind: Option<Kind>,
     place: usize,
     spelling: &'a str,
-) -> Result<(), TokenError>
+) -> Result<(), Memory>
     ensures { OnOk result (tokens.new.items ≡ tokens.old.items ++ listed kind place spelling.now) }
 {
     if let Some(kind) = kind {
         let spelling = Spelling::new(spelling);
-        tokens.push(Token {
+        let token = Token {
             kind,
             place,
             spelling,
-        })?;
+        };
+        if tokens.push(token).is_err() {
+            return Err(Memory);
+        }
     }
     Ok(())
 }
@@ -32,9 +36,9 @@ fn push_token<'a>(
 /// The tokens of a text, which is a whole file or what stands before its first byte that is no
 /// UTF-8.
 fn scan<'a>(alloc: Global, text: &'a str, whole: bool) -> Result<TokenList<'a>, TokenError>
-    requires { length text.now < 2 ^ 62 }
     ensures accepted { IfOk result (λ list. tokens_from whole 0 0 text.now ≡ Ok list.tokens) }
     ensures end { IfOk result (λ list. list.end ≡ length text.now) }
+    ensures whole { OnOk result (whole ≡ true) }
     ensures refused { IfErr result (λ error. Refuses error (tokens_from whole 0 0 text.now)) }
 {
     let mut tokens = Vec::new(alloc);
