@@ -1,0 +1,5 @@
+pub mod Word
+pub mod Symbol
+pub mod Tokens
+pub mod Scan
+pub mod Text

@@ -1,0 +1,160 @@
+-- How the bytes of an app file are cut into tokens.
+--
+-- A file is cut from left to right. At each place stands a piece: a blank, a comment, or a token. The first place at
+-- which none can stand gives the refusal.
+use Rattle.std.specs.Prelude.{◌≡◌, ℕ, zero, suc, ◌+◌, ◌-◌, ◌*◌, Bool, true, false, not, ◌&&◌, ◌||◌, List, [], ◌∷◌, ◌++◌, length, take, take_while, Option, Some, None, Result, Ok, Err, nat_eq, nat_lt, nat_le, if◌then◌else◌, ◌==◌, EachIndex, IsTrue, slice_index}
+use Rattle.std.specs.Str.{byte}
+use Rattle.std.specs.Str.Lossy.{utf8_valid_len}
+use Rattle.app_tokens.specs.declared.token.Token.{Token}
+use Rattle.app_tokens.specs.declared.token.Kind.{Kind}
+use Rattle.app_tokens.specs.declared.token.Kind.TheVariants as kind
+use Rattle.app_tokens.specs.declared.symbol.Symbol.{Symbol}
+use Rattle.app_tokens.specs.declared.word.Word.{Word}
+use Rattle.app_tokens.specs.declared.error.TokenError.{TokenError}
+use Rattle.app_tokens.specs.declared.error.TokenError.TheVariants.{BadByte, OpenText}
+use Rattle.app_tokens.specs.Word.{word_of}
+use Rattle.app_tokens.specs.Symbol.{symbol_of}
+use Rattle.app_tokens.specs.declared.piece.Piece.{Piece}
+use Rattle.app_tokens.specs.Tokens.{Tokens}
+
+-- one of two ways to go on, of which only the chosen one is taken
+abbrev pub choose : {A B : Type 0} → Bool → (A → B) → (A → B) → A → B
+choose true f g x = f x
+choose false f g x = g x
+
+infixl 10 ◌>>=◌
+abbrev pub ◌>>=◌ : {A B : Type 0} → Result A TokenError → (A → Result B TokenError) → Result B TokenError
+(Ok x) >>= f = f x
+(Err e) >>= f = Err e
+
+-- a space, a tab, a line feed or a carriage return
+abbrev pub is_blank : ℕ → Bool
+is_blank b = nat_eq b 32 || nat_eq b 9 || nat_eq b 10 || nat_eq b 13
+
+-- a byte of a comment, which ends before the next line feed
+abbrev pub is_of_comment : ℕ → Bool
+is_of_comment b = not (nat_eq b 10)
+
+abbrev pub is_digit : ℕ → Bool
+is_digit b = nat_le (byte "0") b && nat_le b (byte "9")
+
+abbrev pub is_letter : ℕ → Bool
+is_letter b = nat_le (byte "a") b && nat_le b (byte "z") || nat_le (byte "A") b && nat_le b (byte "Z")
+
+abbrev pub is_of_word : ℕ → Bool
+is_of_word b = is_letter b || is_digit b || nat_eq b (byte "_")
+
+-- so many bytes that are no token
+abbrev pub gap : ℕ → Piece
+gap size = record { size = size; kind = None }
+
+abbrev pub token : ℕ → Kind → Piece
+token size kind = record { size = size; kind = Some kind }
+
+abbrev pub kind_of_word : Option Word → Kind
+kind_of_word None = kind.Name
+kind_of_word (Some w) = kind.Word w
+
+-- a word: a reserved one, or a name
+unfoldable pub word_piece : List ℕ → Piece
+word_piece spelling = token (length spelling) (kind_of_word (word_of spelling))
+
+-- the number that digits spell, behind digits that spell n
+abbrev pub value_after : ℕ → List ℕ → ℕ
+value_after n [] = n
+value_after n (d ∷ digits) = value_after (n * 10 + (d - byte "0")) digits
+
+-- each byte is a digit
+abbrev pub AreDigits : List ℕ → Type 0
+AreDigits digits = EachIndex digits (λ i. IsTrue (is_digit (slice_index digits i)))
+
+-- a number, which may be at most 9,223,372,036,854,775,807
+unfoldable pub number_piece : ℕ → List ℕ → Result Piece TokenError
+number_piece place digits =
+    choose (nat_le (value_after 0 digits) 9223372036854775807)
+    (λ ds. Ok (token (length ds) (kind.Number (value_after 0 ds)))) (λ ds. Err (BadByte place)) digits
+
+-- the bytes end inside a text: the text stays open, unless they end because the next byte is no UTF-8
+abbrev pub cut_off : {A : Type 0} → Bool → ℕ → ℕ → Result A TokenError
+cut_off whole quote place = if whole then Err (OpenText quote) else Err (BadByte place)
+
+abbrev pub is_pair : ℕ → Bool
+is_pair c = nat_eq c (byte "\"") || nat_eq c (byte "\\") || nat_eq c (byte "n")
+
+-- what a backslash and this byte stand for
+abbrev pub meaning_of : ℕ → ℕ
+meaning_of c = if nat_eq c (byte "n") then 10 else c
+
+-- a text from a place behind its opening quote, with the value so far: the whole value, and the place behind the closing quote
+unfoldable pub text_from : Bool → ℕ → ℕ → List ℕ → List ℕ → Result (List ℕ × ℕ) TokenError
+text_from whole quote place value [] = cut_off whole quote place
+text_from whole quote place value (b ∷ []) =
+    choose (nat_eq b (byte "\"")) (λ v. Ok (v, place + 1))
+    (choose (nat_eq b (byte "\\")) (λ v. cut_off whole quote place)
+    (choose (nat_lt b 32) (λ v. Err (BadByte place))
+    (λ v. text_from whole quote (place + 1) (v ++ b ∷ []) []))) value
+text_from whole quote place value (b ∷ c ∷ rest) =
+    choose (nat_eq b (byte "\"")) (λ v. Ok (v, place + 1))
+    (choose (nat_eq b (byte "\\"))
+    (choose (is_pair c) (λ v. text_from whole quote (place + 2) (v ++ meaning_of c ∷ []) rest) (λ v. Err (BadByte place)))
+    (choose (nat_lt b 32) (λ v. Err (BadByte place))
+    (λ v. text_from whole quote (place + 1) (v ++ b ∷ []) (c ∷ rest)))) value
+
+-- a whole text of so many bytes, whose value may have at most 65,536 bytes
+abbrev pub limited : ℕ → List ℕ → ℕ → Result Piece TokenError
+limited size value quote = if nat_le (length value) 65536 then Ok (token size (kind.Text value)) else Err (BadByte quote)
+
+-- the text that opens at a quote, by the bytes behind the quote
+unfoldable pub text_piece : Bool → ℕ → List ℕ → Result Piece TokenError
+text_piece whole quote inside = text_from whole quote (quote + 1) [] inside >>= λ t. limited (t.1 - quote) t.0 quote
+
+-- the symbol that was found at a place, with its length
+abbrev pub found_symbol : ℕ → Option (Symbol × ℕ) → Result Piece TokenError
+found_symbol place None = Err (BadByte place)
+found_symbol place (Some s) = Ok (token s.1 (kind.Symbol s.0))
+
+unfoldable pub symbol_piece : ℕ → List ℕ → Result Piece TokenError
+symbol_piece place bytes = found_symbol place (symbol_of bytes)
+
+-- the piece that begins the bytes, which stand at this place
+unfoldable pub piece_of : Bool → ℕ → List ℕ → Result Piece TokenError
+piece_of whole place [] = Err (BadByte place)
+piece_of whole place (b ∷ bs) =
+    choose (is_blank b) (λ rest. Ok (gap 1))
+    (choose (nat_eq b (byte "#")) (λ rest. Ok (gap (length (take_while is_of_comment (b ∷ rest)))))
+    (choose (is_letter b) (λ rest. Ok (word_piece (take_while is_of_word (b ∷ rest))))
+    (choose (is_digit b) (λ rest. number_piece place (take_while is_digit (b ∷ rest)))
+    (choose (nat_eq b (byte "\"")) (λ rest. text_piece whole place rest)
+    (λ rest. symbol_piece place (b ∷ rest)))))) bs
+
+-- a piece at this place with this spelling, as a list of one token, or of none
+abbrev pub listed : Option Kind → ℕ → List ℕ → List Token
+listed None place spelling = []
+listed (Some k) place spelling = record { kind = k; place = place; spelling = spelling } ∷ []
+
+-- the tokens of the bytes, which stand at this place; first so many of them are passed over, as those of the piece before
+unfoldable pub tokens_from : Bool → ℕ → ℕ → List ℕ → Result (List Token) TokenError
+tokens_from whole skipped place [] = if whole then Ok [] else Err (BadByte place)
+tokens_from whole (suc n) place (b ∷ bs) = tokens_from whole n (place + 1) bs
+tokens_from whole zero place (b ∷ bs) =
+    piece_of whole place (b ∷ bs) >>= λ p.
+    tokens_from whole (p.size - 1) (place + 1) bs >>= λ more.
+    Ok (listed p.kind place (take p.size (b ∷ bs)) ++ more)
+
+-- the tokens of a file, or its first refusal: what stands before its first byte that is no UTF-8 is cut into tokens, and
+-- that byte is refused if nothing before it is
+unfoldable pub tokens_of : List ℕ → Result Tokens TokenError
+tokens_of bytes =
+    tokens_from (utf8_valid_len bytes == length bytes) 0 0 (take (utf8_valid_len bytes) bytes) >>= λ found.
+    Ok (record { tokens = found; end = length bytes })
+
+-- the error is the refusal, unless it is want of memory
+abbrev pub Refuses : {A : Type 0} → TokenError → Result A TokenError → Type 0
+Refuses (BadByte place) said = said ≡ Err (BadByte place)
+Refuses (OpenText place) said = said ≡ Err (OpenText place)
+Refuses _ said = Unit {0}
+
+-- a call answers what is said, unless it finds no memory
+abbrev pub Answers : {A : Type 0} → Result A TokenError → Result A TokenError → Type 0
+Answers (Ok x) said = said ≡ Ok x
+Answers (Err e) said = Refuses e said

@@ -1,0 +1,101 @@
+ghost use Rattle.std.specs.Prelude.{◌≡◌, ◌≤◌, pos, neg_ℤ};
+
+use crate::symbol::Symbol;
+use crate::word::Word;
+use rx_value::RxText;
+use std::marker::Model;
+
+/// The bytes of a token as they stand in the file, which contracts see as the list of these bytes.
+#[derive(Debug, Drop)]
+pub struct Spelling<'a> {
+    text: &'a str,
+}
+
+impl<'a> Model for Spelling<'a> {
+    ghost use Rattle.std.specs.Prelude.{List, ℕ};
+
+    ghost Value = { List ℕ };
+
+    ghost view = { λ spelling. spelling.text.now };
+}
+
+impl<'a> Spelling<'a> {
+    pub fn new(text: &'a str) -> Spelling<'a>
+        ensures { result ≡ text.now }
+    {
+        Spelling { text }
+    }
+
+    pub fn as_str(&self) -> &'a str
+        ensures { result.now ≡ self.now }
+    {
+        self.text
+    }
+}
+
+/// A number of a file: from 0 to 9,223,372,036,854,775,807. Contracts see it as that number.
+#[derive(Debug, Drop)]
+pub struct Number {
+    value: u64,
+}
+
+impl Model for Number {
+    ghost use Rattle.std.specs.Prelude.{ℕ, ◌≤◌};
+
+    ghost Value = { ℕ };
+
+    ghost view = { λ number. number.value };
+
+    ghost invariant = { λ number. number.value ≤ 9223372036854775807 };
+}
+
+impl Number {
+    pub fn new(value: u64) -> Number
+        requires { value ≤ 9223372036854775807 }
+        ensures { result ≡ value }
+    {
+        Number { value }
+    }
+
+    pub fn value(&self) -> u64
+        ensures value { result ≡ self.now }
+        ensures bound { result ≤ 9223372036854775807 }
+    {
+        self.value
+    }
+
+    /// The number as it is.
+    pub fn positive(&self) -> i64
+        ensures { result ≡ pos self.now }
+    {
+        self.value as i64
+    }
+
+    /// The number with a minus before it.
+    pub fn negative(&self) -> i64
+        ensures { result ≡ neg_ℤ (pos self.now) }
+    {
+        -(self.value as i64)
+    }
+}
+
+/// What a token is.
+#[derive(Debug, Drop)]
+pub enum Kind {
+    /// A reserved word.
+    Word(Word),
+    /// A word that isn't reserved; the token's spelling is the name.
+    Name,
+    Number(Number),
+    /// A text, with the value that it stands for.
+    Text(RxText),
+    Symbol(Symbol),
+}
+
+/// A token, with the place of its first byte, counted in bytes from 0.
+#[derive(Debug, Drop)]
+pub struct Token<'a> {
+    pub kind: Kind,
+    pub place: usize,
+    pub spelling: Spelling<'a>,
+}
