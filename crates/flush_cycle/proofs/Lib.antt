@@ -3,3 +3,4 @@ pub mod Replaced
 pub mod Passing
 pub mod Going
 pub mod Sending
+pub mod EarlyTexts

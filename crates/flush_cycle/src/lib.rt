@@ -7,6 +7,7 @@
 
 mod apply;
 mod change;
+mod early;
 mod event;
 mod flushed;
 mod flusher;
@@ -18,6 +19,7 @@ mod start;
 mod texts;
 mod waiting;
 
+pub use early::read_early;
 pub use flushed::Flushed;
 pub use flusher::Flusher;
 pub use stage::Stage;
