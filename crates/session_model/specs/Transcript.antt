@@ -1,6 +1,6 @@
 -- A transcript of client messages, and the output that its replay writes.
 use Rattle.std.specs.Prelude.{ℕ, suc, ◌==◌, Bool, true, false, not, ◌&&◌, ◌||◌, nat_le, nat_lt, List, [], ◌∷◌, ◌++◌, length, drop, Option, Some, None, codes, bytes_eq, decimal, if◌then◌else◌}
-use Rattle.std.specs.List.{before_first, after_first, list_all}
+use Rattle.std.specs.List.{before_first, after_first, list_all, position_or_len}
 use Rattle.std.specs.Str.{is_utf8}
 use Rattle.std.specs.Char.{is_ascii_alphanumeric}
 use Rattle.shiny_json.specs.declared.message.Pair.{Pair}
@@ -10,7 +10,6 @@ use Rattle.app_tree.specs.Tree.{Shape}
 use Rattle.session_model.specs.declared.event.Event.{Event}
 use Rattle.session_model.specs.declared.event.Event.TheVariants.{Text, Other, TaskEnd, End}
 use Rattle.session_model.specs.Alone.{Ending, ended, refused, spent, answers, ending}
-use Rattle.session_model.specs.Apply.{after_front}
 use Rattle.session_model.specs.Early.{early_pairs}
 
 -- ---- lines
@@ -49,16 +48,20 @@ is_label name = nat_lt 0 (length name) && nat_le (length name) 32 && list_all is
 pub data Line : Type 0 where
   recv : List ℕ → List ℕ → Line
 
-abbrev pub recv_of : List ℕ → Option (List ℕ) → Option Line
-recv_of label (Some text) = Some (recv label text)
-recv_of label None = None
+-- a space stands somewhere
+abbrev pub has_space : List ℕ → Bool
+has_space bytes = nat_lt (position_or_len is_space bytes) (length bytes)
 
-abbrev pub parts_of : List ℕ → List ℕ → Option Line
-parts_of label rest = if is_label label then recv_of label (after_front (codes "recv ") rest) else None
+-- the text is all that stands behind `recv` and one space, and may be empty
+abbrev pub recv_of : List ℕ → List ℕ → Option Line
+recv_of label rest = if has_space rest && bytes_eq (before_first is_space rest) (codes "recv") then Some (recv label (after_first is_space rest)) else None
+
+abbrev pub parts_of : List ℕ → Option Line
+parts_of line = if has_space line && is_label (before_first is_space line) then recv_of (before_first is_space line) (after_first is_space line) else None
 
 -- what a line says; None where it has no such form
 abbrev pub line_of : List ℕ → Option Line
-line_of line = if nat_le (length line) line_limit && is_utf8 line then parts_of (before_first is_space line) (after_first is_space line) else None
+line_of line = if nat_le (length line) line_limit && is_utf8 line then parts_of line else None
 
 -- ---- output
 
