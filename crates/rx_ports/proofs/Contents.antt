@@ -1,7 +1,7 @@
 -- What several calls do to the bytes that a source has left and that a sink holds, and to a count of faults.
 use Rattle.std.proofs.Common.{◌≡◌, ℕ, ◌≤◌, List, ◌++◌, Some, None, IfSome, refl, sym, ap, ◌∙◌, subst, append_assoc, append-nil, arith}
 use Rattle.std.specs.declared.option.Option.{Option}
-use Rattle.std.specs.Io.KnownBytes.{prepend_known, append_known, Consumes, Appends, Keeps, IsAtEnd}
+use Rattle.std.specs.Io.KnownBytes.{prepend_known, append_known, Consumes, Appends, IsAtEnd}
 use Rattle.rx_ports.specs.Faults.{Rose}
 
 -- bytes before bytes before what is known

@@ -3,8 +3,9 @@
 //!
 //! What an object tells of its contents (the files that it has, the bytes that are left, the bytes
 //! that it holds) is `Some` in memory and `None` for the real things, and each clause on contents
-//! speaks of objects that tell them. Every object counts its faults. The count never falls, and a
-//! call answers `Failed` only where it rose in that call.
+//! speaks of objects that tell them. Whether an object tells them never changes. Every object
+//! counts its faults. The count never falls, and a call answers `Failed` only where it rose in that
+//! call.
 #![tactic(auto)]
 
 mod bytes;

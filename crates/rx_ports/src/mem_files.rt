@@ -101,7 +101,7 @@ impl Files for MemFiles {
     ghost faults = { λ m. m.plan.faults };
 
     fn read(&mut self, alloc: Global, name: &str, limit: usize) -> FileRead
-        ensures stays { Some self.new.files ≡ Some self.old.files }
+        ensures stays { self.new.files ≡ self.old.files }
         ensures gives { ReadGives (Some self.old.files) name.now limit result }
         ensures later { self.old.plan.faults ≤ self.new.plan.faults }
         ensures failed { ReadFaults self.old.plan.faults self.new.plan.faults result }
