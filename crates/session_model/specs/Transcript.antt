@@ -1,5 +1,5 @@
 -- A transcript of client messages, and the output that its replay writes.
-use Rattle.std.specs.Prelude.{ℕ, suc, ◌==◌, Bool, true, false, not, ◌&&◌, ◌||◌, nat_le, nat_lt, List, [], ◌∷◌, ◌++◌, length, drop, Option, Some, None, codes, bytes_eq, decimal, if◌then◌else◌}
+use Rattle.std.specs.Prelude.{◌≡◌, ⊤, ℕ, suc, ◌==◌, Bool, true, false, not, ◌&&◌, ◌||◌, nat_le, nat_lt, List, [], ◌∷◌, ◌++◌, length, drop, Option, Some, None, codes, bytes_eq, decimal, if◌then◌else◌}
 use Rattle.std.specs.List.{before_first, after_first, list_all, position_or_len}
 use Rattle.std.specs.Str.{is_utf8}
 use Rattle.std.specs.Char.{is_ascii_alphanumeric}
@@ -25,6 +25,11 @@ with_line_byte b more = if b == 10 then [] ∷ more else with_byte b more
 abbrev pub lines_of : List ℕ → List (List ℕ)
 lines_of [] = []
 lines_of (b ∷ bs) = with_line_byte b (lines_of bs)
+
+-- no line feed among the bytes
+abbrev pub HasNoFeed : List ℕ → Type 0
+HasNoFeed [] = ⊤
+HasNoFeed (b ∷ bs) = ((b == 10) ≡ false) × HasNoFeed bs
 
 -- the most bytes of a line, without its line feed
 abbrev pub line_limit : ℕ
@@ -86,10 +91,14 @@ abbrev pub send_lines : List ℕ → List (List ℕ) → List ℕ
 send_lines label [] = []
 send_lines label (text ∷ more) = (label ++ codes " send " ++ text ++ codes "\n") ++ send_lines label more
 
--- `S over REASON`, where the session has ended
+-- `S over REASON`
+abbrev pub over_text : List ℕ → List ℕ → List ℕ
+over_text label reason = label ++ codes " over " ++ reason ++ codes "\n"
+
+-- that line, where the session has ended
 abbrev pub over_line : List ℕ → Option Ending → List ℕ
 over_line label None = []
-over_line label (Some end) = label ++ codes " over " ++ ending_text end ++ codes "\n"
+over_line label (Some end) = over_text label (ending_text end)
 
 -- a session of the transcript, with its own journal
 pub record Open : Type 0 where

@@ -1,0 +1,3 @@
+pub mod Utf8Tests
+pub mod Feeds
+pub mod LineSteps

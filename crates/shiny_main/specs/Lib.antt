@@ -1,1 +1,3 @@
 pub mod AppForm
+pub mod Lines
+pub mod Replaying
