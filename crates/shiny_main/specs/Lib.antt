@@ -1,1 +1,2 @@
 pub mod AppForm
+pub mod Written

@@ -1,0 +1,70 @@
+-- A loop over tokens has come to a place: the items before it, and those that the rest spells, are what all the tokens spell.
+use Rattle.std.proofs.Common.{◌≡◌, ℕ, zero, suc, ◌+◌, ◌-◌, ◌<◌, List, [], ◌∷◌, ◌++◌, length, map, Option, Some, None, refl, sym, ap, ◌∙◌, arith, append_assoc, append-nil, length-append}
+use Rattle.std.proofs.lemmas.List.{map-append}
+use Rattle.app_tokens.specs.declared.token.Token.{Token}
+use Rattle.shiny_main.specs.declared.draft.Written.{Written}
+use Rattle.shiny_main.specs.declared.draft.First.{First}
+use Rattle.shiny_main.specs.AppForm.{Draft, Begun, first_item, before_all, after_first, drafts_of}
+use Rattle.shiny_main.specs.Written.{draft_of, begun_of}
+
+abbrev pub behind : List Draft → Option (List Draft) → Option (List Draft)
+behind ds (Some more) = Some (ds ++ more)
+behind ds None = None
+
+behind-none : (o : Option (List Draft)) → behind [] o ≡ o
+behind-none (Some more) = refl
+behind-none None = refl
+
+behind-one : (ds : List Draft) (d : Draft) (o : Option (List Draft)) → behind ds (before_all d o) ≡ behind (ds ++ d ∷ []) o
+behind-one ds d (Some more) = ap Some (sym (append_assoc ds (d ∷ []) more))
+behind-one ds d None = refl
+
+pub record Spelled (most : ℕ) (tokens rest : List Token) (items : List Written) : Type 0 where
+  pub left : ℕ
+  pub room : left + length items ≡ most
+  pub said : behind (map draft_of items) (drafts_of left rest) ≡ drafts_of most tokens
+
+pub spelled_none : (most : ℕ) (tokens : List Token) → Spelled most tokens tokens []
+spelled_none most tokens = record { left = most; room = refl; said = behind-none (drafts_of most tokens) }
+
+-- the tokens that begin with an item, where there is room for one more
+drafts_of-first : (left : ℕ) (rest : List Token) (b : Begun) → first_item rest ≡ Some b → drafts_of (suc left) rest ≡ before_all b.item (drafts_of left b.rest)
+drafts_of-first left [] b e = cc
+drafts_of-first left (t ∷ ts) b e = ap (λ f. after_first f (drafts_of left)) e
+
+drafts_of-no_first : (left : ℕ) (rest : List Token) → 0 < length rest → first_item rest ≡ None → drafts_of left rest ≡ None
+drafts_of-no_first left [] h e = absurd (omega (arith, h))
+drafts_of-no_first zero (t ∷ ts) h e = refl
+drafts_of-no_first (suc left) (t ∷ ts) h e = ap (λ f. after_first f (drafts_of left)) e
+
+drafts_of-no_room : (rest : List Token) → 0 < length rest → drafts_of zero rest ≡ None
+drafts_of-no_room [] h = absurd (omega (arith, h))
+drafts_of-no_room (t ∷ ts) h = refl
+
+spelled_next : (left most : ℕ) (tokens rest : List Token) (items : List Written) (first : First) → left + length items ≡ most → behind (map draft_of items) (drafts_of left rest) ≡ drafts_of most tokens
+    → length items < most → first_item rest ≡ begun_of (Some first) → Spelled most tokens first.rest.now (items ++ first.item ∷ [])
+spelled_next zero most tokens rest items first room said lt e = absurd (omega (arith, room, lt))
+spelled_next (suc left) most tokens rest items first room said lt e =
+    record {
+      left = left;
+      room = omega (arith, room, length-append items (first.item ∷ []));
+      said = ap (λ ds. behind ds (drafts_of left first.rest.now)) (map-append draft_of items (first.item ∷ []))
+          ∙ (sym (behind-one (map draft_of items) (draft_of first.item) (drafts_of left first.rest.now))
+          ∙ (ap (behind (map draft_of items)) (sym (drafts_of-first left rest _ e)) ∙ said));
+    }
+
+pub spelled_more : (most : ℕ) (tokens rest : List Token) (items : List Written) (first : First) → Spelled most tokens rest items
+    → length items < most → begun_of (Some first) ≡ first_item rest → Spelled most tokens first.rest.now (items ++ first.item ∷ [])
+spelled_more most tokens rest items first h lt e = spelled_next h.left most tokens rest items first h.room h.said lt (sym e)
+
+pub spelled_all : (most : ℕ) (tokens rest : List Token) (items : List Written) → Spelled most tokens rest items → length rest ≡ 0 → drafts_of most tokens ≡ Some (map draft_of items)
+spelled_all most tokens [] items h e = sym h.said ∙ ap Some (append-nil (map draft_of items))
+spelled_all most tokens (t ∷ ts) items h e = absurd (omega (arith, e))
+
+pub spelled_broken : (most : ℕ) (tokens rest : List Token) (items : List Written) → Spelled most tokens rest items → 0 < length rest → first_item rest ≡ None → drafts_of most tokens ≡ None
+spelled_broken most tokens rest items h some e = sym h.said ∙ ap (behind (map draft_of items)) (drafts_of-no_first h.left rest some e)
+
+pub spelled_full : (most : ℕ) (tokens rest : List Token) (items : List Written) → Spelled most tokens rest items → 0 < length rest → length items ≡ most → drafts_of most tokens ≡ None
+spelled_full most tokens rest items h some full =
+    let none : h.left ≡ 0 = omega (arith, h.room, full) in
+    sym h.said ∙ (ap (λ n. behind (map draft_of items) (drafts_of n rest)) none ∙ ap (behind (map draft_of items)) (drafts_of-no_room rest some))
