@@ -1,5 +1,6 @@
 -- The items that the tokens of `src/` stand for.
-use Rattle.std.specs.Prelude.{◌≡◌, ℕ, Option, Some, None}
+use Rattle.std.specs.Prelude.{◌≡◌, ℕ, List, drop, Option, Some, None}
+use Rattle.app_tokens.specs.declared.token.Token.{Token}
 use Rattle.app_tokens.specs.declared.token.Kind.{Kind}
 use Rattle.app_tokens.specs.declared.token.Kind.TheVariants as kind
 use Rattle.app_tokens.specs.declared.word.Word.TheVariants as word
@@ -13,9 +14,10 @@ abbrev pub draft_of : Written → Draft
 draft_of (written.Input name start) = draft_input name.now start.now
 draft_of (written.Text name input) = draft_text name.now input.now
 
-abbrev pub begun_of : Option First → Option Begun
-begun_of (Some first) = Some (record { item = draft_of first.item; rest = first.rest.now })
-begun_of None = None
+-- what begins the tokens
+abbrev pub begun_of : List Token → Option First → Option Begun
+begun_of tokens (Some first) = Some (record { item = draft_of first.item; rest = drop first.size tokens })
+begun_of tokens None = None
 
 -- the number that a token is
 abbrev pub number_of : Kind → Option ℕ

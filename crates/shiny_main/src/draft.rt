@@ -1,12 +1,13 @@
 //! The items of an app file as they are written, before a name is looked up.
 
-ghost use Rattle.std.specs.Prelude.{◌≡◌, ◌<◌, ◌≤◌, ◌↔◌, length, map, IsTrue, IfOk, IfSome, Some, None, Err, option_copied};
+ghost use Rattle.std.specs.Prelude.{◌≡◌, ◌<◌, ◌≤◌, ◌↔◌, length, map, IsTrue, IfOk, IfSome, OnOk, Some, None, Err, option_copied, [], ◌∷◌, ◌++◌};
 ghost use Rattle.app_tokens.specs.declared.token.Kind.TheVariants as kind;
 ghost use Rattle.shiny_main.specs.AppForm.{input_item, text_item, first_item, drafts_of, draft_name};
 ghost use Rattle.shiny_main.specs.Written.{draft_of, begun_of, number_of, IsInput, IsText};
 
 use crate::load::LoadError;
 use app_tokens::{Kind, Number, Symbol, Token, Word};
+use rx_value::Memory;
 use std::alloc::Global;
 
 /// An item as it is written.
@@ -29,11 +30,11 @@ impl<'a> Written<'a> {
     }
 }
 
-/// The first item of some tokens, and the tokens behind it.
+/// The first item of some tokens, and how many of them it is.
 #[derive(Debug, Drop)]
-pub struct First<'a> {
-    pub item: Written<'a>,
-    pub rest: &'a [Token<'a>],
+struct First<'a> {
+    item: Written<'a>,
+    size: usize,
 }
 
 fn is_word(token: &Token<'_>, word: Word) -> bool
@@ -80,10 +81,11 @@ fn is_input(word: &Token<'_>, name: &Token<'_>, assign: &Token<'_>, end: &Token<
 
 /// `input NAME = INT ;`
 fn input_item<'a>(tokens: &'a [Token<'a>]) -> Option<First<'a>>
-    ensures said { begun_of result ≡ input_item tokens.now }
-    ensures shorter { IfSome result (λ first. length first.rest.now < length tokens.now) }
+    ensures said { begun_of tokens.now result ≡ input_item tokens.now }
+    ensures some { IfSome result (λ first. 0 < first.size) }
+    ensures within { IfSome result (λ first. first.size ≤ length tokens.now) }
 {
-    let [word, name, assign, start, end, rest @ ..] = tokens else {
+    let [word, name, assign, start, end, ..] = tokens else {
         return None;
     };
     let start = number(start)?;
@@ -92,7 +94,7 @@ fn input_item<'a>(tokens: &'a [Token<'a>]) -> Option<First<'a>>
     }
     let name = name.spelling.as_str();
     let item = Written::Input { name, start };
-    Some(First { item, rest })
+    Some(First { item, size: 5 })
 }
 
 fn is_text(
@@ -117,10 +119,11 @@ fn is_text(
 
 /// `text NAME { input $ NAME }`
 fn text_item<'a>(tokens: &'a [Token<'a>]) -> Option<First<'a>>
-    ensures said { begun_of result ≡ text_item tokens.now }
-    ensures shorter { IfSome result (λ first. length first.rest.now < length tokens.now) }
+    ensures said { begun_of tokens.now result ≡ text_item tokens.now }
+    ensures some { IfSome result (λ first. 0 < first.size) }
+    ensures within { IfSome result (λ first. first.size ≤ length tokens.now) }
 {
-    let [word, name, opening, input, dollar, read, closing, rest @ ..] = tokens else {
+    let [word, name, opening, input, dollar, read, closing, ..] = tokens else {
         return None;
     };
     if !is_text(word, name, opening, input, dollar, read, closing) {
@@ -129,16 +132,26 @@ fn text_item<'a>(tokens: &'a [Token<'a>]) -> Option<First<'a>>
     let name = name.spelling.as_str();
     let input = read.spelling.as_str();
     let item = Written::Text { name, input };
-    Some(First { item, rest })
+    Some(First { item, size: 7 })
 }
 
 fn first_item<'a>(tokens: &'a [Token<'a>]) -> Option<First<'a>>
-    ensures said { begun_of result ≡ first_item tokens.now }
-    ensures shorter { IfSome result (λ first. length first.rest.now < length tokens.now) }
+    ensures said { begun_of tokens.now result ≡ first_item tokens.now }
+    ensures some { IfSome result (λ first. 0 < first.size) }
+    ensures within { IfSome result (λ first. first.size ≤ length tokens.now) }
 {
     match input_item(tokens) {
         Some(first) => Some(first),
         None => text_item(tokens),
+    }
+}
+
+fn push_item<'a>(items: &mut Vec<Written<'a>>, item: Written<'a>) -> Result<(), Memory>
+    ensures { OnOk result (items.new.items ≡ items.old.items ++ item.entry ∷ []) }
+{
+    match items.push(item) {
+        Ok(()) => Ok(()),
+        Err(_) => Err(Memory),
     }
 }
 
@@ -153,18 +166,18 @@ pub fn written_items<'a>(
     ensures refused { result ≡ Err LoadError.NotYet → drafts_of most tokens.now ≡ None }
 {
     let mut items = Vec::new(alloc);
-    let mut rest = tokens;
-    while !rest.is_empty() {
+    let mut place = 0;
+    while place < tokens.len() {
         if items.len() == most {
             return Err(LoadError::NotYet);
         }
-        let Some(first) = first_item(rest) else {
-            return Err(LoadError::NotYet);
-        };
-        if items.push(first.item).is_err() {
-            return Err(LoadError::Memory);
+        match first_item(&tokens[place..]) {
+            Some(First { item, size }) => {
+                push_item(&mut items, item)?;
+                place += size;
+            }
+            None => return Err(LoadError::NotYet),
         }
-        rest = first.rest;
     }
     Ok(items)
 }
