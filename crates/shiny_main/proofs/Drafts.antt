@@ -1,6 +1,6 @@
 -- A loop over tokens has come to a place: the items before it, and those that the rest spells, are what all the tokens spell.
-use Rattle.std.proofs.Common.{◌≡◌, ℕ, zero, suc, ◌+◌, ◌-◌, ◌<◌, List, [], ◌∷◌, ◌++◌, length, map, Option, Some, None, refl, sym, ap, ◌∙◌, arith, append_assoc, append-nil, length-append, length-drop, ◌≤◌, ◌≢◌, drop, subst}
-use Rattle.std.proofs.lemmas.List.{map-append, drop-drop, drop_all}
+use Rattle.std.proofs.Common.{◌≡◌, ℕ, zero, suc, ◌+◌, ◌-◌, ◌<◌, List, [], ◌∷◌, ◌++◌, length, map, Option, Some, None, refl, sym, ap, ◌∙◌, arith, append_assoc, append-nil, length-append, length-drop, ◌≤◌, ◌≢◌, drop, take, subst}
+use Rattle.std.proofs.lemmas.List.{map-append, drop-drop, drop_all, take_all}
 use Rattle.app_tokens.specs.declared.token.Token.{Token}
 use Rattle.shiny_main.specs.declared.draft.Written.{Written}
 use Rattle.shiny_main.specs.declared.draft.First.{First}
@@ -52,16 +52,25 @@ spelled_next (suc left) most tokens rest items first room said lt e =
     ∙ (sym (behind-one (map draft_of items) (draft_of first.item) (drafts_of left (drop first.size rest)))
     ∙ (ap (behind (map draft_of items)) (sym (drafts_of-first left rest _ e)) ∙ said)))
 
+-- the tokens from a place to the end
+abbrev pub behind_place : List Token → ℕ → List Token
+behind_place tokens place = take (length tokens - place) (drop place tokens)
+
+behind_place-is : (tokens : List Token) (place : ℕ) → behind_place tokens place ≡ drop place tokens
+behind_place-is tokens place = take_all (length tokens - place) (drop place tokens) (omega (arith, length-drop place tokens))
+
 pub spelled_more : (most : ℕ) (tokens : List Token) (place : ℕ) (first : First) (items items' : List Written) → Spelled most tokens place items → length items ≢ most
-    → begun_of (drop place tokens) (Some first) ≡ first_item (drop place tokens) → first.size ≤ length (drop place tokens) → items' ≡ items ++ first.item ∷ []
+    → begun_of (behind_place tokens place) (Some first) ≡ first_item (behind_place tokens place) → first.size ≤ length (behind_place tokens place) → items' ≡ items ++ first.item ∷ []
     → Spelled most tokens (place + first.size) items'
 spelled_more most tokens place first items items' h room e within more =
-    let next = spelled_next h.left most tokens (drop place tokens) items first h.room h.said (omega (arith, h.room, room)) (sym e) in
+    let is : behind_place tokens place ≡ drop place tokens = behind_place-is tokens place in
+    let next = spelled_next h.left most tokens (drop place tokens) items first h.room h.said (omega (arith, h.room, room))
+    (sym (subst (λ r. begun_of r (Some first) ≡ first_item r) is e)) in
     let P : List Written → Type 0 = λ is. Spelled most tokens (place + first.size) is in
     subst P (sym more) (record {
       left = next.0;
       room = next.1;
-      within = omega (arith, within, h.within, length-drop place tokens);
+      within = omega (arith, within, h.within, ap length is, length-drop place tokens);
       said = ap (λ r. behind (map draft_of (items ++ first.item ∷ [])) (drafts_of next.0 r)) (sym (drop-drop first.size place tokens)) ∙ next.2;
     })
 
@@ -70,9 +79,10 @@ spelled_all most tokens place items h end =
     sym h.said ∙ (ap (λ r. behind (map draft_of items) (drafts_of h.left r)) (drop_all place tokens end) ∙ ap Some (append-nil (map draft_of items)))
 
 pub spelled_broken : (most : ℕ) (tokens : List Token) (place : ℕ) (items : List Written) → Spelled most tokens place items → place < length tokens
-    → begun_of (drop place tokens) None ≡ first_item (drop place tokens) → drafts_of most tokens ≡ None
+    → begun_of (behind_place tokens place) None ≡ first_item (behind_place tokens place) → drafts_of most tokens ≡ None
 spelled_broken most tokens place items h lt e =
-    sym h.said ∙ ap (behind (map draft_of items)) (drafts_of-no_first h.left (drop place tokens) (omega (arith, length-drop place tokens, lt)) (sym e))
+    sym h.said ∙ ap (behind (map draft_of items)) (drafts_of-no_first h.left (drop place tokens) (omega (arith, length-drop place tokens, lt))
+    (ap first_item (sym (behind_place-is tokens place)) ∙ sym e))
 
 pub spelled_full : (most : ℕ) (tokens : List Token) (place : ℕ) (items : List Written) → Spelled most tokens place items → place < length tokens → length items ≡ most → drafts_of most tokens ≡ None
 spelled_full most tokens place items h lt full =

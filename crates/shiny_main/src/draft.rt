@@ -61,7 +61,7 @@ fn is_name(token: &Token<'_>) -> bool
     matches!(&token.kind, Kind::Name)
 }
 
-fn number<'a>(token: &'a Token<'a>) -> Option<&'a Number>
+fn number<'a>(token: &'a Token<'_>) -> Option<&'a Number>
     ensures { option_copied result ≡ number_of token.now.kind }
 {
     match &token.kind {
@@ -80,7 +80,7 @@ fn is_input(word: &Token<'_>, name: &Token<'_>, assign: &Token<'_>, end: &Token<
 }
 
 /// `input NAME = INT ;`
-fn input_item<'a>(tokens: &'a [Token<'a>]) -> Option<First<'a>>
+fn input_item<'a>(tokens: &'a [Token<'_>]) -> Option<First<'a>>
     ensures said { begun_of tokens.now result ≡ input_item tokens.now }
     ensures some { IfSome result (λ first. 0 < first.size) }
     ensures within { IfSome result (λ first. first.size ≤ length tokens.now) }
@@ -118,7 +118,7 @@ fn is_text(
 }
 
 /// `text NAME { input $ NAME }`
-fn text_item<'a>(tokens: &'a [Token<'a>]) -> Option<First<'a>>
+fn text_item<'a>(tokens: &'a [Token<'_>]) -> Option<First<'a>>
     ensures said { begun_of tokens.now result ≡ text_item tokens.now }
     ensures some { IfSome result (λ first. 0 < first.size) }
     ensures within { IfSome result (λ first. first.size ≤ length tokens.now) }
@@ -135,7 +135,7 @@ fn text_item<'a>(tokens: &'a [Token<'a>]) -> Option<First<'a>>
     Some(First { item, size: 7 })
 }
 
-fn first_item<'a>(tokens: &'a [Token<'a>]) -> Option<First<'a>>
+fn first_item<'a>(tokens: &'a [Token<'_>]) -> Option<First<'a>>
     ensures said { begun_of tokens.now result ≡ first_item tokens.now }
     ensures some { IfSome result (λ first. 0 < first.size) }
     ensures within { IfSome result (λ first. first.size ≤ length tokens.now) }
@@ -159,7 +159,7 @@ fn push_item<'a>(items: &mut Vec<Written<'a>>, item: Written<'a>) -> Result<(), 
 pub fn written_items<'a>(
     alloc: Global,
     most: usize,
-    tokens: &'a [Token<'a>],
+    tokens: &'a [Token<'_>],
 ) -> Result<Vec<Written<'a>>, LoadError>
     ensures accepted { IfOk result (λ items. drafts_of most tokens.now ≡ Some (map draft_of items.items)) }
     ensures bound { IfOk result (λ items. length items.items ≤ most) }

@@ -123,3 +123,27 @@ fn app_of_items(alloc: Global, items: &[Written<'_>]) -> Result<App, LoadError>
     let items = items_of(alloc, items)?;
     Ok(App::new(DEFAULT_BUDGET, items))
 }
+
+fn app_of_tokens(alloc: Global, tokens: &[Token<'_>]) -> Result<App, LoadError>
+    ensures accepted { IfOk result (λ app. app_of_drafts (drafts_of item_limit tokens.now) ≡ Some (shape_of app)) }
+    ensures refused { result ≡ Err LoadError.NotYet → app_of_drafts (drafts_of item_limit tokens.now) ≡ None }
+{
+    let items = written_items(alloc, ITEM_LIMIT, tokens)?;
+    app_of_items(alloc, items.as_slice())
+}
+
+/// Reads an app file.
+pub fn load(alloc: Global, bytes: &[u8]) -> Result<App, LoadError>
+    ensures accepted { IfOk result (λ app. app_of bytes.now ≡ Some (shape_of app)) }
+    ensures refused { result ≡ Err LoadError.NotYet → app_of bytes.now ≡ None }
+{
+    if bytes.len() > FILE_LIMIT {
+        return Err(LoadError::NotYet);
+    }
+    match tokens(alloc, bytes) {
+        Ok(list) => app_of_tokens(alloc, list.as_slice()),
+        Err(TokenError::BadByte(_)) => Err(LoadError::NotYet),
+        Err(TokenError::OpenText(_)) => Err(LoadError::NotYet),
+        Err(TokenError::Memory) => Err(LoadError::Memory),
+    }
+}
