@@ -46,11 +46,13 @@ spelled_next : (left most : ℕ) (tokens rest : List Token) (items : List Writte
     → length items < most → first_item rest ≡ begun_of rest (Some first)
     → (l : ℕ) × (l + length (items ++ first.item ∷ []) ≡ most) × (behind (map draft_of (items ++ first.item ∷ [])) (drafts_of l (drop first.size rest)) ≡ drafts_of most tokens)
 spelled_next zero most tokens rest items first room said lt e = absurd (omega (arith, room, lt))
-spelled_next (suc left) most tokens rest items first room said lt e =
-    (left, omega (arith, room, length-append items (first.item ∷ [])),
-    ap (λ ds. behind ds (drafts_of left (drop first.size rest))) (map-append draft_of items (first.item ∷ []))
-    ∙ (sym (behind-one (map draft_of items) (draft_of first.item) (drafts_of left (drop first.size rest)))
-    ∙ (ap (behind (map draft_of items)) (sym (drafts_of-first left rest _ e)) ∙ said)))
+spelled_next (suc left) most tokens rest items first room said lt e = (
+  left,
+  omega (arith, room, length-append items (first.item ∷ [])),
+  ap (λ ds. behind ds (drafts_of left (drop first.size rest))) (map-append draft_of items (first.item ∷ []))
+      ∙ (sym (behind-one (map draft_of items) (draft_of first.item) (drafts_of left (drop first.size rest)))
+      ∙ (ap (behind (map draft_of items)) (sym (drafts_of-first left rest _ e)) ∙ said)),
+)
 
 -- the tokens from a place to the end
 abbrev pub behind_place : List Token → ℕ → List Token

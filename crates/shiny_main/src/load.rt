@@ -63,7 +63,7 @@ fn have_names_once(items: &[Written<'_>]) -> bool
 
 /// The source number of the input of this name.
 fn input_place(name: &str, items: &[Written<'_>]) -> Option<u32>
-    requires { length items.now ≤ 500 }
+    requires { length items.now ≤ item_limit }
     ensures { result ≡ input_place 0 name.now (map draft_of items.now) }
 {
     let mut number: u32 = 0;
@@ -79,7 +79,7 @@ fn input_place(name: &str, items: &[Written<'_>]) -> Option<u32>
 }
 
 fn item_of(alloc: Global, items: &[Written<'_>], item: &Written<'_>) -> Result<Item, LoadError>
-    requires { length items.now ≤ 500 }
+    requires { length items.now ≤ item_limit }
     ensures accepted { IfOk result (λ made. node_of_draft (map draft_of items.now) (draft_of item.now) ≡ Some (node_of made)) }
     ensures refused { result ≡ Err LoadError.NotYet → node_of_draft (map draft_of items.now) (draft_of item.now) ≡ None }
 {
@@ -101,7 +101,7 @@ fn item_of(alloc: Global, items: &[Written<'_>], item: &Written<'_>) -> Result<I
 }
 
 fn items_of(alloc: Global, items: &[Written<'_>]) -> Result<Items, LoadError>
-    requires { length items.now ≤ 500 }
+    requires { length items.now ≤ item_limit }
     ensures accepted { IfOk result (λ made. nodes_of (map draft_of items.now) (map draft_of items.now) ≡ Some (map node_of made)) }
     ensures refused { result ≡ Err LoadError.NotYet → nodes_of (map draft_of items.now) (map draft_of items.now) ≡ None }
 {
@@ -113,7 +113,7 @@ fn items_of(alloc: Global, items: &[Written<'_>]) -> Result<Items, LoadError>
 }
 
 fn app_of_items(alloc: Global, items: &[Written<'_>]) -> Result<App, LoadError>
-    requires { length items.now ≤ 500 }
+    requires { length items.now ≤ item_limit }
     ensures accepted { IfOk result (λ app. app_of_drafts (Some (map draft_of items.now)) ≡ Some (shape_of app)) }
     ensures refused { result ≡ Err LoadError.NotYet → app_of_drafts (Some (map draft_of items.now)) ≡ None }
 {
@@ -145,5 +145,176 @@ pub fn load(alloc: Global, bytes: &[u8]) -> Result<App, LoadError>
         Err(TokenError::BadByte(_)) => Err(LoadError::NotYet),
         Err(TokenError::OpenText(_)) => Err(LoadError::NotYet),
         Err(TokenError::Memory) => Err(LoadError::Memory),
+    }
+}
+
+#[cfg(test)]
+mod tests {
+    use super::*;
+    use std::alloc::AllocError;
+    use std::test::Fail;
+
+    enum Wanted {
+        Input(&'static str, i64),
+        Text(&'static str, u32),
+    }
+
+    fn is_wanted(item: &Item, wanted: &Wanted) -> bool {
+        match (item, wanted) {
+            (
+                Item::Input {
+                    name,
+                    start: Value::Int(start),
+                },
+                Wanted::Input(other, number),
+            ) => { name.as_str() == *other && *start == *number }
+            (
+                Item::Text {
+                    name,
+                    body: Term::Get(Read::Input(source)),
+                },
+                Wanted::Text(other, number),
+            ) => { name.as_str() == *other && *source == *number }
+            _ => false,
+        }
+    }
+
+    fn are_wanted(items: &[Item], wanted: &[Wanted]) -> bool {
+        items.len() == wanted.len()
+            && items
+                .iter()
+                .zip(wanted.iter())
+                .all(|(item, wanted)| is_wanted(item, wanted))
+    }
+
+    #[test]
+    fn takes_inputs_and_outputs_that_show_one(rt: HostRuntime) -> Result<(), Fail> {
+        let files: [(&str, &[Wanted]); 10] = [
+            ("", &[]),
+            (" \t\r\n# input n = 1;\n#", &[]),
+            (
+                "input n = 1; text o { input$n }",
+                &[Wanted::Input("n", 1), Wanted::Text("o", 0)],
+            ),
+            (
+                "input n=1;text o{input$n}",
+                &[Wanted::Input("n", 1), Wanted::Text("o", 0)],
+            ),
+            (
+                "text o { input $ b } # the later one\ninput a = 1;\ninput b = 2;\ntext p { input $ a }",
+                &[
+                    Wanted::Text("o", 1),
+                    Wanted::Input("a", 1),
+                    Wanted::Input("b", 2),
+                    Wanted::Text("p", 0),
+                ],
+            ),
+            ("input n = 0;", &[Wanted::Input("n", 0)]),
+            ("input n = 007;", &[Wanted::Input("n", 7)]),
+            (
+                "input n = 9223372036854775807;",
+                &[Wanted::Input("n", 9223372036854775807)],
+            ),
+            ("input inputs_2 = 1;", &[Wanted::Input("inputs_2", 1)]),
+            (
+                "input n = 1; text N { input$n } text M { input$n }",
+                &[
+                    Wanted::Input("n", 1),
+                    Wanted::Text("N", 0),
+                    Wanted::Text("M", 0),
+                ],
+            ),
+        ];
+        for (file, wanted) in files {
+            let app = load(rt.alloc(), file.as_bytes())?;
+            assert_eq!(rt; app.budget(), 1000, "{file}");
+            assert!(rt; are_wanted(app.items().as_slice(), wanted), "{file}");
+        }
+        Ok(())
+    }
+
+    #[test]
+    fn refuses_what_has_another_form(rt: HostRuntime) {
+        let files: [&[u8]; 30] = [
+            b"input n = 1; input n = 2;",
+            b"input n = 1; text n { input$n }",
+            b"input n = 1; text o { input$n } text o { input$n }",
+            b"text o { input$n }",
+            b"input m = 1; text o { input$n }",
+            b"input n = 1; text o { input$n } text p { input$o }",
+            b"input text = 1;",
+            b"input c = 1;",
+            b"input n = 1; text sum { input$n }",
+            b"input n = -1;",
+            b"input n = 9223372036854775808;",
+            b"input n = \"1\";",
+            b"input n = TRUE;",
+            b"input n = 1",
+            b"input n = 1; input m",
+            b"input n = 1; text o { input$n",
+            b"input n = 1; text",
+            b"input n = 1;;",
+            b"input = 1;",
+            b"input n 1;",
+            b"text o { 1 }",
+            b"input n = 1; text o { input$n + 1 }",
+            b"input n = 1; text o { n }",
+            b"budget 10; input n = 1;",
+            b"\xef\xbb\xbf",
+            b"\xffinput n = 1;",
+            b"input n\xff = 1;",
+            b"input n = 1;\xff",
+            b"# \xc3",
+            b"input n = 1; @",
+        ];
+        for file in files {
+            assert!(rt;
+                matches!(load(rt.alloc(), file), Err(LoadError::NotYet)),
+                "{file:?}"
+            );
+        }
+    }
+
+    /// A file of so many inputs.
+    fn inputs(alloc: Global, count: usize) -> Result<String, AllocError> {
+        let mut file = String::new(alloc);
+        for number in 0..count {
+            let item = format!(in alloc; "input n{number} = {number};\n")?;
+            file.push_str(item.as_str())?;
+        }
+        Ok(file)
+    }
+
+    #[test]
+    fn takes_at_most_500_items(rt: HostRuntime) -> Result<(), Fail> {
+        let most = inputs(rt.alloc(), 500)?;
+        let app = load(rt.alloc(), most.as_bytes())?;
+        let items = app.items().as_slice();
+        assert_eq!(rt; items.len(), 500);
+        assert!(rt; is_wanted(&items[0], &Wanted::Input("n0", 0)));
+        assert!(rt; is_wanted(&items[499], &Wanted::Input("n499", 499)));
+        let more = inputs(rt.alloc(), 501)?;
+        assert!(rt; matches!(load(rt.alloc(), more.as_bytes()), Err(LoadError::NotYet)));
+        Ok(())
+    }
+
+    /// A file of so many bytes, with one input.
+    fn padded(alloc: Global, spaces: usize) -> Result<String, AllocError> {
+        let mut file = String::from_str(alloc, "input n = 1;")?;
+        for _ in 0..spaces {
+            file.push(' ')?;
+        }
+        Ok(file)
+    }
+
+    #[test]
+    fn takes_at_most_262_144_bytes(rt: HostRuntime) -> Result<(), Fail> {
+        let most = padded(rt.alloc(), 262_132)?;
+        assert_eq!(rt; most.len(), 262_144);
+        let app = load(rt.alloc(), most.as_bytes())?;
+        assert!(rt; are_wanted(app.items().as_slice(), &[Wanted::Input("n", 1)]));
+        let more = padded(rt.alloc(), 262_133)?;
+        assert!(rt; matches!(load(rt.alloc(), more.as_bytes()), Err(LoadError::NotYet)));
+        Ok(())
     }
 }
