@@ -1,3 +1,6 @@
 pub mod Utf8Tests
 pub mod Feeds
 pub mod LineSteps
+pub mod Drafts
+pub mod Made
+pub mod Answering

@@ -1,3 +1,4 @@
 pub mod AppForm
 pub mod Lines
 pub mod Replaying
+pub mod Written

@@ -1,5 +1,5 @@
 -- What the parts of a replay answer, in the words of its definition.
-use Rattle.std.specs.Prelude.{◌≡◌, ◌≤◌, ℕ, Bool, true, false, List, [], ◌∷◌, ◌++◌, Option, Some, None, IfSome, ⊤}
+use Rattle.std.specs.Prelude.{◌≡◌, ◌≤◌, ℕ, Bool, true, false, List, [], ◌∷◌, ◌++◌, Option, Some, None, IfSome, ⊤, codes}
 use Rattle.std.specs.Option.{option_map}
 use Rattle.std.specs.Io.KnownBytes.{append_known, IsAtEnd}
 use Rattle.rx_ports.specs.Faults.{Rose}
@@ -10,14 +10,17 @@ use Rattle.shiny_json.specs.declared.message.Client.TheVariants.{Init, Update}
 use Rattle.shiny_json.specs.Client.{client_message}
 use Rattle.session_model.specs.declared.event.Event.TheVariants.{Text, End}
 use Rattle.session_model.specs.Alone.{Ending, spent, course_of}
-use Rattle.session_model.specs.Transcript.{Open, with_event, event_output, Line, ReplayEnd, done, bad_line, no_session, Replayed, stopped, after_output, replay_line, replayed}
+use Rattle.session_model.specs.Transcript.{send_lines, over_text, Open, with_event, event_output, Line, ReplayEnd, done, bad_line, no_session, Replayed, stopped, after_output, replay_line, replayed}
 use Rattle.flush_cycle.specs.declared.stage.Stage.TheVariants as stage
 use Rattle.shiny_main.specs.declared.session.OpenSession.{OpenSession}
 use Rattle.shiny_main.specs.declared.session.Answered.{Answered}
 
+abbrev pub IsOpen : OpenSession → Option Ending → Type 0
+IsOpen code end = (code.flusher.stage ≡ stage.Open) × (end ≡ None)
+
 -- a session that goes on takes further events; one that is over ended by its budget
 abbrev pub EndsSo : OpenSession → Bool → Option Ending → Type 0
-EndsSo code false end = (code.flusher.stage ≡ stage.Open) × (end ≡ None)
+EndsSo code false end = IsOpen code end
 EndsSo code true end = end ≡ Some spent
 
 -- the code's session has come where the journal of the definition's has
@@ -28,6 +31,14 @@ pub record HoldsOpen (app : Shape) (s : Open) (code : OpenSession) : Type 0 wher
   pub begun : (course_of app s.journal).begun ≡ true
   pub ending : EndsSo code code.over (course_of app s.journal).ending
 
+abbrev pub budget_line : List ℕ → Bool → List ℕ
+budget_line label true = over_text label (codes "budget")
+budget_line label false = []
+
+-- the output lines of an event that sent these texts, and whether it ended the session
+abbrev pub event_lines : List ℕ → List (List ℕ) → Bool → List ℕ
+event_lines label texts over = send_lines label texts ++ budget_line label over
+
 -- a client message was answered: its output is that of its event, and the session holds it
 pub record AnswersText (app : Shape) (s : Open) (text : List ℕ) (answered : Answered) : Type 0 where
   pub output : answered.output ≡ event_output app (Text text) s
@@ -37,6 +48,6 @@ pub record AnswersText (app : Shape) (s : Open) (text : List ℕ) (answered : An
 abbrev pub AnswersFirst : Shape → List ℕ → List Pair → Answered → Type 0
 AnswersFirst app label pairs answered = (text : List ℕ) → client_message text ≡ Init pairs → AnswersText app (record { label = label; journal = [] }) text answered
 
--- and as a later one
-abbrev pub AnswersLater : Shape → OpenSession → List Pair → Answered → Type 0
-AnswersLater app code pairs answered = (s : Open) (text : List ℕ) → HoldsOpen app s code → client_message text ≡ Update pairs → AnswersText app s text answered
+-- and as a later one of a session that goes on
+abbrev pub AnswersLater : OpenSession → List Pair → Answered → Type 0
+AnswersLater code pairs answered = (app : Shape) (s : Open) (text : List ℕ) → HoldsOpen app s code → IsOpen code (course_of app s.journal).ending → client_message text ≡ Update pairs → AnswersText app s text answered

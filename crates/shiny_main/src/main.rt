@@ -3,6 +3,7 @@
 
 mod line;
 mod lines;
+mod draft;
 mod load;
 mod session;
 

@@ -1,10 +1,11 @@
 ghost use Rattle.std.specs.Prelude.{◌≡◌, ◌++◌, OnOk, IfOk, codes};
 ghost use Rattle.app_tree.specs.View.{shape_of};
 ghost use Rattle.session_model.specs.Transcript.{send_lines, over_text};
-ghost use Rattle.shiny_main.specs.Replaying.{AnswersFirst, AnswersLater, HoldsOpen};
+ghost use Rattle.flush_cycle.specs.Flushing.{flushed_by};
+ghost use Rattle.shiny_main.specs.Replaying.{AnswersFirst, AnswersLater, event_lines};
 
 use app_tree::App;
-use flush_cycle::{Flushed, Flusher, Texts};
+use flush_cycle::{Flushed, Flusher, Stage, Texts};
 use rx_value::{Memory, RxText};
 use shiny_json::ClientData;
 use std::alloc::Global;
@@ -52,4 +53,72 @@ pub fn push_over(output: &mut RxText, label: &RxText, reason: &str) -> Result<()
     output.push_str(" over ")?;
     output.push_str(reason)?;
     output.push_str("\n")
+}
+
+/// The output lines of an event that sent these texts: those, and the over line where it ended the
+/// session.
+fn event_output(alloc: Global, label: &RxText, texts: &Texts, over: bool) -> Result<RxText, Memory>
+    ensures { IfOk result (λ output. output ≡ event_lines label.now texts.now over) }
+{
+    let mut output = RxText::new(alloc);
+    push_sends(&mut output, label, texts.as_slice())?;
+    if over {
+        push_over(&mut output, label, "budget")?;
+    }
+    Ok(output)
+}
+
+/// Opens a session with its init.
+pub fn answer_first(
+    alloc: Global,
+    app: Arc<App>,
+    label: &RxText,
+    data: &ClientData,
+) -> Result<Answered, Memory>
+    ensures { IfOk result (λ a. AnswersFirst (shape_of app.value) label.now data.now a) }
+{
+    let mut flusher = Flusher::new(alloc, app)?;
+    let label = label.copy(alloc)?;
+    let (texts, over) = sent(flusher.init(alloc, &label, data))?;
+    let output = event_output(alloc, &label, &texts, over)?;
+    let session = OpenSession {
+        label,
+        flusher,
+        over,
+    };
+    Ok(Answered { session, output })
+}
+
+/// Hands a session that isn't over an update.
+pub fn answer_later(
+    alloc: Global,
+    session: OpenSession,
+    data: &ClientData,
+) -> Result<Answered, Memory>
+    requires { session.flusher.stage ≡ Stage.Open }
+    ensures { IfOk result (λ a. AnswersLater session data.now a) }
+{
+    let OpenSession {
+        label,
+        mut flusher,
+        over: _,
+    } = session;
+    let (texts, over) = sent(flusher.update(alloc, data))?;
+    let output = event_output(alloc, &label, &texts, over)?;
+    let session = OpenSession {
+        label,
+        flusher,
+        over,
+    };
+    Ok(Answered { session, output })
+}
+
+fn sent(flushed: Flushed) -> Result<(Texts, bool), Memory>
+    ensures { IfOk result (λ s. flushed ≡ flushed_by s.0 s.1) }
+{
+    match flushed {
+        Flushed::Done(texts) => Ok((texts, false)),
+        Flushed::BudgetSpent(texts) => Ok((texts, true)),
+        Flushed::Memory => Err(Memory),
+    }
 }
