@@ -78,11 +78,18 @@ impl Flusher {
         })
     }
 
-    /// Applies the session's init: sets what it says, in the order of its pairs, and runs what waits.
+    /// How far the session has come.
+    pub fn stage(&self) -> Stage
+        ensures { result ≡ self.now.stage }
+    {
+        self.stage
+    }
+
+    /// Applies the session's init: sets what its pairs say, in their order, and runs what waits.
     /// Its texts are the first of the session with this label.
-    pub fn init(&mut self, alloc: Global, label: &RxText, data: &ClientData) -> Flushed
+    pub fn init(&mut self, alloc: Global, label: &RxText, pairs: &ClientData) -> Flushed
         requires { self.old.stage ≡ Stage.New }
-        ensures flush { let app = shape_of self.old.app in let f = applied app data.now self.old.state in FlushGives (first_texts app label.now f) f self.new.state result }
+        ensures flush { let app = shape_of self.old.app in let f = applied app pairs.now self.old.state in FlushGives (first_texts app label.now f) f self.new.state result }
         ensures app { self.new.app ≡ self.old.app }
         ensures stage { self.new.stage ≡ stage_after result }
     {
@@ -92,17 +99,17 @@ impl Flusher {
             &mut self.values,
             &mut self.readers,
             label,
-            data.as_slice(),
+            pairs.as_slice(),
         );
         let flushed = flushed_of(sent);
         self.stage = stage_after(&flushed);
         flushed
     }
 
-    /// Applies an update: sets what it says, in the order of its pairs, and runs what waits.
-    pub fn update(&mut self, alloc: Global, data: &ClientData) -> Flushed
+    /// Applies an update: sets what its pairs say, in their order, and runs what waits.
+    pub fn update(&mut self, alloc: Global, pairs: &ClientData) -> Flushed
         requires { self.old.stage ≡ Stage.Open }
-        ensures flush { let app = shape_of self.old.app in let f = applied app data.now self.old.state in FlushGives (later_texts app f) f self.new.state result }
+        ensures flush { let app = shape_of self.old.app in let f = applied app pairs.now self.old.state in FlushGives (later_texts app f) f self.new.state result }
         ensures app { self.new.app ≡ self.old.app }
         ensures stage { self.new.stage ≡ stage_after result }
     {
@@ -111,7 +118,7 @@ impl Flusher {
             &self.app,
             &mut self.values,
             &mut self.readers,
-            data.as_slice(),
+            pairs.as_slice(),
         );
         let flushed = flushed_of(sent);
         self.stage = stage_after(&flushed);

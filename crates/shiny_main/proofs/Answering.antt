@@ -4,11 +4,11 @@ use Rattle.std.specs.Prelude.{codes}
 use Rattle.app_tree.specs.Tree.{Shape}
 use Rattle.app_tree.specs.View.{shape_of}
 use Rattle.shiny_json.specs.declared.message.Pair.{Pair}
-use Rattle.shiny_json.specs.declared.message.Client.TheVariants.{Init, Update}
+use Rattle.shiny_json.specs.declared.message.Client.TheVariants.{Update}
 use Rattle.shiny_json.specs.Client.{client_message}
 use Rattle.session_model.specs.declared.event.Event.{Event}
 use Rattle.session_model.specs.declared.event.Event.TheVariants.{Text}
-use Rattle.session_model.specs.State.{SessionState, first_state}
+use Rattle.session_model.specs.State.{SessionState}
 use Rattle.session_model.specs.Flush.{FlushEnd, done, budget_spent, Flushed as FlushResult}
 use Rattle.session_model.specs.Texts.{first_texts, later_texts}
 use Rattle.session_model.specs.Alone.{Course, first_course, Effect, flushes, effect, effect_texts, effect_from, message_effect, course_after, flush_ending, applied, course_of, ending}
@@ -19,7 +19,7 @@ use Rattle.flush_cycle.specs.declared.stage.Stage.TheVariants as stage
 use Rattle.flush_cycle.specs.Flushing.{FlushGives, flushed_by, stage_after}
 use Rattle.shiny_main.specs.declared.session.OpenSession.{OpenSession}
 use Rattle.shiny_main.specs.declared.session.Answered.{Answered}
-use Rattle.shiny_main.specs.Replaying.{EndsSo, IsOpen, HoldsOpen, budget_line, event_lines, AnswersText, AnswersFirst, AnswersLater}
+use Rattle.shiny_main.specs.Replaying.{EndsSo, HoldsOpen, budget_line, event_lines, AnswersText, AnswersFirst, AnswersLater}
 
 -- the course after a text that flushes
 abbrev flushed_course : Course → Bool → FlushResult → Course
@@ -36,10 +36,43 @@ output_is app s text first f e =
     let end : ending app (with_event (Text text) s).journal ≡ flush_ending f.end = ap (λ (c : Course). c.ending) (course_is app s text first f e) in
     ap (λ l. send_lines s.label l ++ over_line s.label (ending app (with_event (Text text) s).journal)) texts ∙ ap (λ o. send_lines s.label (effect_texts app s.label (flushes first f)) ++ over_line s.label o) end
 
--- what the Flusher's answer says, by whether the budget was spent
-end_of_over : Bool → FlushEnd
-end_of_over true = budget_spent
-end_of_over false = done
+-- the answer to a text that flushes
+pub answers_text : (app : Shape) (s : Open) (text : List ℕ) (first : Bool) (f : FlushResult) (texts : List (List ℕ)) (over : Bool) (answered : Answered)
+    → effect app (course_of app s.journal) (Text text) ≡ flushes first f
+    → answered.session.label ≡ s.label → shape_of answered.session.flusher.app ≡ app
+    → FlushGives (effect_texts app s.label (flushes first f)) f answered.session.flusher.state (flushed_by texts over)
+    → answered.session.flusher.stage ≡ stage_after (flushed_by texts over)
+    → answered.output ≡ event_lines s.label texts over → AnswersText app s text answered
+answers_text app s text first f texts true answered e label of_app gives at out =
+    let course = course_is app s text first f e in
+    record {
+      output = out ∙ ap (λ t. send_lines s.label t ++ budget_line s.label true) gives.1 ∙ sym (output_is app s text first f e ∙ ap (λ o. send_lines s.label (effect_texts app s.label (flushes first f)) ++ over_line s.label (flush_ending o)) gives.0);
+      holds = record {
+        label = label;
+        of_app = of_app;
+        state = gives.2 ∙ sym (ap (λ (c : Course). c.state) course);
+        begun = ap (λ (c : Course). c.begun) course;
+        ending = subst (λ b. EndsSo b (course_of app (with_event (Text text) s).journal).ending) (sym at) (ap (λ (c : Course). c.ending) course ∙ ap flush_ending gives.0);
+      };
+    }
+answers_text app s text first f texts false answered e label of_app gives at out =
+    let course = course_is app s text first f e in
+    record {
+      output = out ∙ ap (λ t. send_lines s.label t ++ budget_line s.label false) gives.1 ∙ sym (output_is app s text first f e ∙ ap (λ o. send_lines s.label (effect_texts app s.label (flushes first f)) ++ over_line s.label (flush_ending o)) gives.0);
+      holds = record {
+        label = label;
+        of_app = of_app;
+        state = gives.2 ∙ sym (ap (λ (c : Course). c.state) course);
+        begun = ap (λ (c : Course). c.begun) course;
+        ending = subst (λ b. EndsSo b (course_of app (with_event (Text text) s).journal).ending) (sym at) (ap (λ (c : Course). c.ending) course ∙ ap flush_ending gives.0);
+      };
+    }
 
-lines_are : (label : List ℕ) (texts : List (List ℕ)) (over : Bool) (end : FlushEnd) → end ≡ end_of_over over → event_lines label texts over ≡ send_lines label texts ++ over_line label (flush_ending end)
-lines_are label texts over end e = ?
+-- what an update does to a session that goes on
+pub update_effect : (app : Shape) (s : Open) (text : List ℕ) (pairs : List Pair) (code : OpenSession) → HoldsOpen app s code → code.flusher.stage ≡ stage.Open → client_message text ≡ Update pairs
+    → effect app (course_of app s.journal) (Text text) ≡ flushes false (applied app pairs code.flusher.state)
+update_effect app s text pairs code holds at e =
+    let course = course_of app s.journal in
+    let none : course.ending ≡ None = subst (λ b. EndsSo b course.ending) at holds.ending in
+    ap (λ o. effect_from app course o (Text text)) none ∙ ap (λ b. message_effect app b course.state (client_message text)) holds.begun ∙ ap (message_effect app true course.state) e
+    ∙ ap (λ st. flushes false (applied app pairs st)) (sym holds.state)

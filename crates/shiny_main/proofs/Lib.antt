@@ -4,3 +4,4 @@ pub mod LineSteps
 pub mod Drafts
 pub mod Made
 pub mod Answering
+pub mod Taking

@@ -1,4 +1,6 @@
 pub mod AppForm
 pub mod Lines
 pub mod Replaying
+pub mod Statuses
+pub mod Words
 pub mod Written

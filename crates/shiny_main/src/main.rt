@@ -1,10 +1,13 @@
 //! `replay FILE`: a session of the app in FILE, replayed from a transcript.
 #![tactic(auto)]
 
+mod draft;
 mod line;
 mod lines;
-mod draft;
 mod load;
+mod replay;
 mod session;
+mod status;
+mod words;
 
 fn main() {}

@@ -16,8 +16,6 @@ use std::sync::Arc;
 pub struct OpenSession {
     pub label: RxText,
     pub flusher: Flusher,
-    /// Whether its last event ended it.
-    pub over: bool,
 }
 
 /// A session after an event, with the output lines of the event.
@@ -73,19 +71,15 @@ pub fn answer_first(
     alloc: Global,
     app: Arc<App>,
     label: &RxText,
-    data: &ClientData,
+    pairs: &ClientData,
 ) -> Result<Answered, Memory>
-    ensures { IfOk result (λ a. AnswersFirst (shape_of app.value) label.now data.now a) }
+    ensures { IfOk result (λ a. AnswersFirst (shape_of app.value) label.now pairs.now a) }
 {
     let mut flusher = Flusher::new(alloc, app)?;
     let label = label.copy(alloc)?;
-    let (texts, over) = sent(flusher.init(alloc, &label, data))?;
+    let (texts, over) = sent(flusher.init(alloc, &label, pairs))?;
     let output = event_output(alloc, &label, &texts, over)?;
-    let session = OpenSession {
-        label,
-        flusher,
-        over,
-    };
+    let session = OpenSession { label, flusher };
     Ok(Answered { session, output })
 }
 
@@ -93,23 +87,15 @@ pub fn answer_first(
 pub fn answer_later(
     alloc: Global,
     session: OpenSession,
-    data: &ClientData,
+    pairs: &ClientData,
 ) -> Result<Answered, Memory>
     requires { session.flusher.stage ≡ Stage.Open }
-    ensures { IfOk result (λ a. AnswersLater session data.now a) }
+    ensures { IfOk result (λ a. AnswersLater session pairs.now a) }
 {
-    let OpenSession {
-        label,
-        mut flusher,
-        over: _,
-    } = session;
-    let (texts, over) = sent(flusher.update(alloc, data))?;
+    let OpenSession { label, mut flusher } = session;
+    let (texts, over) = sent(flusher.update(alloc, pairs))?;
     let output = event_output(alloc, &label, &texts, over)?;
-    let session = OpenSession {
-        label,
-        flusher,
-        over,
-    };
+    let session = OpenSession { label, flusher };
     Ok(Answered { session, output })
 }
 
