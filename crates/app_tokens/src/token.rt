@@ -20,7 +20,7 @@ impl<'a> Model for Spelling<'a> {
 }
 
 impl<'a> Spelling<'a> {
-    pub fn new(text: &'a str) -> Spelling<'a>
+    pub(crate) fn new(text: &'a str) -> Spelling<'a>
         ensures { result ≡ text.now }
     {
         Spelling { text }
@@ -50,7 +50,7 @@ impl Model for Number {
 }
 
 impl Number {
-    pub fn new(value: u64) -> Number
+    pub(crate) fn new(value: u64) -> Number
         requires { value ≤ 9223372036854775807 }
         ensures { result ≡ value }
     {
