@@ -2,3 +2,4 @@ pub mod Digits
 pub mod Texts
 pub mod Pieces
 pub mod Files
+pub mod Layouts

@@ -154,7 +154,7 @@ IsCut-symbol (a ∷ b ∷ c ∷ more) s utf8 e =
     (λ x h. IsCut-ascii bs 2 1 utf8 (omega arith) (omega arith) (two_low a b x h))
     (sized bs (one_byte_symbol a) 1 None s (λ x h. IsCut-ascii bs 1 0 utf8 (omega arith) (omega arith) (one_low a x h)) (λ h. cc))) e
 
-abbrev ok : {A : Type 0} → A → Result A TokenError
+abbrev pub ok : {A : Type 0} → A → Result A TokenError
 ok x = Ok x
 
 -- at so many bytes behind a place stands the closing quote

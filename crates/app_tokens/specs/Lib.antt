@@ -3,3 +3,4 @@ pub mod Symbol
 pub mod Tokens
 pub mod Scan
 pub mod Text
+pub mod Layout
