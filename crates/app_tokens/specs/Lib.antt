@@ -4,3 +4,4 @@ pub mod Tokens
 pub mod Scan
 pub mod Text
 pub mod Layout
+pub mod Kind
