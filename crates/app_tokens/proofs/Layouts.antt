@@ -96,11 +96,11 @@ piece_of-cases whole place b bs p e = each (is_blank b) (nat_eq b 35) (is_letter
   where
     each : (blank hash letter digit quote : Bool) → is_blank b ≡ blank → nat_eq b 35 ≡ hash
         → choose blank (λ rest. Ok (gap 1))
-          (choose hash (λ rest. Ok (gap (length (take_while is_of_comment (b ∷ rest)))))
-          (choose letter (λ rest. Ok (word_piece (take_while is_of_word (b ∷ rest))))
-          (choose digit (λ rest. number_piece place (take_while is_digit (b ∷ rest)))
-          (choose quote (λ rest. text_piece whole place rest)
-          (λ rest. symbol_piece place (b ∷ rest)))))) bs ≡ Ok p
+        (choose hash (λ rest. Ok (gap (length (take_while is_of_comment (b ∷ rest)))))
+        (choose letter (λ rest. Ok (word_piece (take_while is_of_word (b ∷ rest))))
+        (choose digit (λ rest. number_piece place (take_while is_digit (b ∷ rest)))
+        (choose quote (λ rest. text_piece whole place rest)
+        (λ rest. symbol_piece place (b ∷ rest)))))) bs ≡ Ok p
         → ((is_blank b ≡ true) × (gap 1 ≡ p))
         ⊎ (((nat_eq b 35 ≡ true) × (gap (length (take_while is_of_comment (b ∷ bs))) ≡ p)) ⊎ ((is_blank b ≡ false) × IsToken p))
     each true h l d q blank hash e = inl (blank, cc)
@@ -143,9 +143,12 @@ Leaves-comment : (before : Bool) (b : ℕ) (bs : List ℕ) → nat_eq b 35 ≡ t
     → Leaves before (take (length (take_while is_of_comment (b ∷ bs))) (b ∷ bs)) (drop (length (take_while is_of_comment (b ∷ bs))) (b ∷ bs))
 Leaves-comment true b bs hash close = absurd (grind arith)
 Leaves-comment false b bs hash close =
-    record { open_after = true; closes = Closes-run (b ∷ bs);
+    record {
+      open_after = true;
+      closes = Closes-run (b ∷ bs);
       same = λ more. ap (λ front. comment_after false (front ++ more)) (take-comment b bs hash)
-          ∙ comment_after-hash b (take_while is_of_comment bs ++ more) hash ∙ comment_after-run bs more }
+          ∙ comment_after-hash b (take_while is_of_comment bs ++ more) hash ∙ comment_after-run bs more;
+    }
 
 -- the tokens of what is left stand in it, of at most n bytes
 abbrev StandsBelow : ℕ → Bool → Type 0
@@ -162,8 +165,8 @@ stand-gap place size bs ts more before le leaves is stand =
     let Q : ℕ → Type 0 = λ q. StandBehind leaves.open_after q (drop size bs) more in
     let R : List Token → Type 0 = λ us. StandBehind before place bs us in
     subst R is (subst P (take-append-drop size bs)
-      (StandBehind-gap before leaves.open_after place (take size bs) (drop size bs) more leaves.same
-        (subst Q (omega (arith, length-take size bs)) stand)))
+    (StandBehind-gap before leaves.open_after place (take size bs) (drop size bs) more leaves.same
+    (subst Q (omega (arith, length-take size bs)) stand)))
 
 -- and a token with those behind it
 stand-token : (place : ℕ) (b : ℕ) (bs : List ℕ) (p : Piece) (ts more : List Token) (before : Bool) → p.size ≤ length (b ∷ bs) → Closes before (b ∷ bs)
@@ -177,8 +180,14 @@ stand-token place b bs p ts more false le close clear one is stand = each p.kind
     each (Some k) one is =
         let P : List Token → Type 0 = λ us. StandBehind false place (b ∷ bs) us in
         let Q : ℕ → Type 0 = λ q. StandBehind false q (drop p.size (b ∷ bs)) more in
-        subst P is ([], drop p.size (b ∷ bs), refl, omega arith, sym (take-append-drop p.size (b ∷ bs)),
-            subst Q (omega (arith, length-take p.size (b ∷ bs))) stand)
+        subst P is (
+          [],
+          drop p.size (b ∷ bs),
+          refl,
+          omega arith,
+          sym (take-append-drop p.size (b ∷ bs)),
+          subst Q (omega (arith, length-take p.size (b ∷ bs))) stand,
+        )
 
 -- what stands behind a piece, if it has tokens, gives with the piece's tokens all
 Goes : ℕ → Bool → ℕ → List ℕ → List Token → Bool → Piece → Type 0
@@ -191,14 +200,14 @@ goes-gap : (n : ℕ) (whole : Bool) (place size : ℕ) (bs : List ℕ) (ts : Lis
 unfolding Goes
 goes-gap n whole place size bs ts before le below leaves = λ more cut rest all utf8.
     stand-gap place size bs ts more before cut.boundary.0 leaves (cc)
-        (below (place + size) (drop size bs) more leaves.open_after (omega (arith, length-drop size bs, cut.some, cut.boundary.0)) utf8 leaves.closes rest)
+    (below (place + size) (drop size bs) more leaves.open_after (omega (arith, length-drop size bs, cut.some, cut.boundary.0)) utf8 leaves.closes rest)
 
 goes-token : (n : ℕ) (whole : Bool) (place b : ℕ) (bs : List ℕ) (ts : List Token) (before : Bool) (p : Piece) → length (b ∷ bs) ≤ suc n
     → StandsBelow n whole → Closes before (b ∷ bs) → is_blank b ≡ false → IsToken p → Goes n whole place (b ∷ bs) ts before p
 unfolding Goes
 goes-token n whole place b bs ts before p le below close clear one = λ more cut rest all utf8.
     stand-token place b bs p ts more before cut.boundary.0 close clear one (cc)
-        (below (place + p.size) (drop p.size (b ∷ bs)) more false (omega (arith, length-drop p.size (b ∷ bs), cut.some, cut.boundary.0)) utf8 tt rest)
+    (below (place + p.size) (drop p.size (b ∷ bs)) more false (omega (arith, length-drop p.size (b ∷ bs), cut.some, cut.boundary.0)) utf8 tt rest)
 
 goes : (n : ℕ) (whole : Bool) (place b : ℕ) (bs : List ℕ) (ts : List Token) (before : Bool) (p : Piece) → length (b ∷ bs) ≤ suc n
     → StandsBelow n whole → Closes before (b ∷ bs) → piece_of whole place (b ∷ bs) ≡ Ok p → Goes n whole place (b ∷ bs) ts before p
@@ -211,7 +220,7 @@ goes n whole place b bs ts before p le below close is = each (piece_of-cases who
         subst (Goes n whole place (b ∷ bs) ts before) same (goes-gap n whole place 1 (b ∷ bs) ts before le below (Leaves-blank before b bs blank close))
     each (inr (inl (hash, same))) =
         subst (Goes n whole place (b ∷ bs) ts before) same
-          (goes-gap n whole place (length (take_while is_of_comment (b ∷ bs))) (b ∷ bs) ts before le below (Leaves-comment before b bs hash close))
+        (goes-gap n whole place (length (take_while is_of_comment (b ∷ bs))) (b ∷ bs) ts before le below (Leaves-comment before b bs hash close))
     each (inr (inr (clear, one))) = goes-token n whole place b bs ts before p le below close clear one
 
 stand-piece : (n : ℕ) (whole : Bool) (place b : ℕ) (bs : List ℕ) (ts : List Token) (before : Bool) → length (b ∷ bs) ≤ suc n
@@ -225,13 +234,14 @@ stand-piece n whole place b bs ts before le utf8 close below e = each (piece_of 
     further p (Err x) is cut rest all = cc
     further p (Ok more) is cut rest all =
         goes n whole place b bs ts before p le below close is more cut rest all
-          (IsUtf8-drop (b ∷ bs) p.size utf8 cut.boundary)
+        (IsUtf8-drop (b ∷ bs) p.size utf8 cut.boundary)
+
     each : (r : Result Piece TokenError) → piece_of whole place (b ∷ bs) ≡ r → StandBehind before place (b ∷ bs) ts
     each (Err x) is = let no : ok ts ≡ Err x = sym e ∙ tokens_from-fails whole place (b ∷ bs) x (omega arith) is in cc
     each (Ok p) is =
         let cut = IsCut-piece whole place (b ∷ bs) p utf8 is in
         further p (tokens_from whole 0 (place + p.size) (drop p.size (b ∷ bs))) is cut refl
-          (sym (tokens_from-piece whole place (b ∷ bs) p cut.some cut.boundary.0 is) ∙ e)
+        (sym (tokens_from-piece whole place (b ∷ bs) p cut.some cut.boundary.0 is) ∙ e)
 
 -- the tokens of a file stand in it
 stand : (n : ℕ) (whole : Bool) → StandsBelow n whole

@@ -78,7 +78,7 @@ none_true false false true e = cc
 none_true false false false e = (refl, refl, refl)
 
 -- a plain byte goes into the value as it is
-text_from-plain : (whole : Bool) (quote place b : ℕ) (value bs : List ℕ) → is_plain b ≡ true
+pub text_from-plain : (whole : Bool) (quote place b : ℕ) (value bs : List ℕ) → is_plain b ≡ true
     → text_from whole quote place value (b ∷ bs) ≡ text_from whole quote (place + 1) (value ++ b ∷ []) bs
 unfolding text_from
 text_from-plain whole quote place b value [] plain =

@@ -9,14 +9,14 @@ abbrev pub comment_after : Bool → List ℕ → Option Bool
 comment_after before [] = Some before
 comment_after true (b ∷ bs) = comment_after (not (nat_eq b 10)) bs
 comment_after false (b ∷ bs) =
-  if is_blank b then comment_after false bs else (if nat_eq b (byte "#") then comment_after true bs else None)
+    if is_blank b then comment_after false bs else (if nat_eq b (byte "#") then comment_after true bs else None)
 
 -- `StandIn`, of bytes before which a comment may be open
 abbrev pub StandBehind : Bool → ℕ → List ℕ → List Token → Type 0
 StandBehind before place bytes [] = IsSome (comment_after before bytes)
 StandBehind before place bytes (t ∷ more) =
-  (gap : List ℕ) × (rest : List ℕ) × (comment_after before gap ≡ Some false) × (t.place ≡ place + length gap)
-  × (bytes ≡ gap ++ (t.spelling ++ rest)) × StandBehind false (t.place + length t.spelling) rest more
+    (gap : List ℕ) × (rest : List ℕ) × (comment_after before gap ≡ Some false) × (t.place ≡ place + length gap)
+    × (bytes ≡ gap ++ (t.spelling ++ rest)) × StandBehind false (t.place + length t.spelling) rest more
 
 -- the bytes at this place are the tokens' spellings in their order, each at its token's place, and before, between and
 -- behind them stand blanks and comments alone
