@@ -1,15 +1,13 @@
 -- Bytes that spell a token, and are followed by what doesn't go on with it, are read as this token.
-use Rattle.std.proofs.Common.{◌≡◌, ℕ, zero, suc, ◌+◌, ◌-◌, ◌<◌, ◌≤◌, List, [], ◌∷◌, ◌++◌, length, refl, sym, ap, ◌∙◌, arith, Bool, true, false, ◌&&◌, nat_eq, nat_lt, nat_le, Option, Some, None, Result, Ok, Err}
+use Rattle.std.proofs.Common.{◌≡◌, ℕ, ◌+◌, ◌-◌, ◌≤◌, List, [], ◌∷◌, ◌++◌, length, refl, ap, ◌∙◌, arith, Bool, true, false, ◌&&◌, nat_eq, nat_le, Some, None, Ok}
 use Rattle.std.specs.Prelude.{take_while, if◌then◌else◌}
 use Rattle.std.specs.List.{list_all}
 use Rattle.std.proofs.lemmas.List.Sums.{take_while-cons}
 use Rattle.app_tokens.specs.declared.symbol.Symbol.{Symbol}
 use Rattle.app_tokens.specs.declared.symbol.Symbol.TheVariants as symbol
 use Rattle.app_tokens.specs.declared.token.Kind.TheVariants as kind
-use Rattle.app_tokens.specs.declared.error.TokenError.{TokenError}
-use Rattle.app_tokens.specs.declared.error.TokenError.TheVariants.{BadByte}
-use Rattle.app_tokens.specs.Symbol.{symbol_of, sized_or, one_byte_symbol, two_byte_symbol, three_byte_symbol}
-use Rattle.app_tokens.specs.Scan.{choose, gap, token, is_blank, is_letter, is_digit, is_of_word, value_after, word_piece, number_piece, text_piece, text_from, limited, is_pair, meaning_of, symbol_piece, found_symbol, piece_of, ◌>>=◌}
+use Rattle.app_tokens.specs.Symbol.{symbol_of, sized_or, one_byte_symbol, two_byte_symbol}
+use Rattle.app_tokens.specs.Scan.{gap, token, is_blank, is_letter, is_digit, is_of_word, value_after, word_piece, number_piece, text_piece, text_from, is_pair, meaning_of, symbol_piece, piece_of}
 
 abbrev pub begins_with : (ℕ → Bool) → List ℕ → Bool
 begins_with p [] = false

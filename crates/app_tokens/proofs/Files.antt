@@ -1,5 +1,5 @@
 -- A whole file, and one with bytes that are no UTF-8.
-use Rattle.std.proofs.Common.{◌≡◌, ℕ, ◌+◌, ◌-◌, ◌<◌, ◌≤◌, ◌==◌, List, length, take, refl, sym, ap, ◌∙◌, arith, Bool, true, false, subst, Result, Ok, Err}
+use Rattle.std.proofs.Common.{◌≡◌, ℕ, ◌<◌, ◌==◌, List, length, take, refl, sym, ap, ◌∙◌, arith, Bool, true, false, Result, Ok, Err}
 use Rattle.std.specs.Str.{IsUtf8}
 use Rattle.std.specs.Str.Lossy.{utf8_valid_len}
 use Rattle.std.specs.Result.{IfOk, IfErr, OnOk}

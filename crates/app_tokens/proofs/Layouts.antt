@@ -1,7 +1,7 @@
 -- Tokens stand in their file in order, with blanks and comments alone between them.
-use Rattle.std.proofs.Common.{◌≡◌, ℕ, zero, suc, ◌+◌, ◌-◌, ◌<◌, ◌≤◌, List, [], ◌∷◌, ◌++◌, length, get_or, drop, take, refl, sym, ap, ◌∙◌, arith, Bool, true, false, cond, not, ◌||◌, nat_eq, nat_lt, nat_le, append_assoc, subst, length-drop, length-append, length-take, ◌⊎◌, inl, inr, Option, Some, None, Result, Ok, Err}
+use Rattle.std.proofs.Common.{◌≡◌, ℕ, zero, suc, ◌+◌, ◌-◌, ◌≤◌, List, [], ◌∷◌, ◌++◌, length, drop, take, refl, sym, ap, ◌∙◌, arith, Bool, true, false, cond, not, nat_eq, nat_le, append_assoc, subst, length-drop, length-append, length-take, ◌⊎◌, inl, inr, Option, Some, None, Result, Ok, Err}
 use Rattle.std.specs.Prelude.{take_while, if◌then◌else◌, IsSome}
-use Rattle.std.specs.Str.{IsUtf8, byte}
+use Rattle.std.specs.Str.{IsUtf8}
 use Rattle.std.proofs.lemmas.Str.{IsUtf8-drop}
 use Rattle.std.proofs.lemmas.List.{take-append-drop}
 use Rattle.std.proofs.lemmas.List.Sums.{take_while-cons}
@@ -9,7 +9,7 @@ use Rattle.app_tokens.specs.declared.piece.Piece.{Piece}
 use Rattle.app_tokens.specs.declared.token.Token.{Token}
 use Rattle.app_tokens.specs.declared.token.Kind.{Kind}
 use Rattle.app_tokens.specs.declared.error.TokenError.{TokenError}
-use Rattle.app_tokens.specs.declared.error.TokenError.TheVariants.{BadByte, OpenText, Memory}
+use Rattle.app_tokens.specs.declared.error.TokenError.TheVariants.{BadByte}
 use Rattle.app_tokens.specs.declared.symbol.Symbol.{Symbol}
 use Rattle.app_tokens.specs.declared.token.Kind.TheVariants as kind
 use Rattle.app_tokens.specs.Symbol.{symbol_of}
@@ -18,7 +18,7 @@ use Rattle.app_tokens.specs.Tokens.{Tokens}
 use Rattle.std.specs.Result.{IfOk}
 use Rattle.app_tokens.specs.Layout.{comment_after, StandBehind, StandIn}
 use Rattle.app_tokens.proofs.Digits.{take-length-take_while}
-use Rattle.app_tokens.proofs.Pieces.{ok, joined, tokens_from-piece, tokens_from-fails, IsCut, IsCut-piece, IsUtf8-behind}
+use Rattle.app_tokens.proofs.Pieces.{ok, joined, tokens_from-piece, tokens_from-fails, IsCut, IsCut-piece}
 
 -- bytes before which a comment is open begin with its line feed
 abbrev Closes : Bool → List ℕ → Type 0
