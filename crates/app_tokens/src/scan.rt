@@ -1,6 +1,6 @@
 //! A file from its first byte to its last.
 
-ghost use Rattle.std.specs.Prelude.{◌≡◌, ◌<◌, ◌+◌, ◌++◌, ◌^◌, length, take, Ok, Err, true, IfOk, IfErr, OnOk};
+ghost use Rattle.std.specs.Prelude.{◌≡◌, ◌+◌, ◌++◌, length, Ok, true, IfOk, IfErr, OnOk};
 ghost use Rattle.std.specs.Str.{IsUtf8};
 ghost use Rattle.app_tokens.specs.Layout.{StandIn};
 ghost use Rattle.app_tokens.specs.Scan.{Refuses, listed, tokens_from, tokens_of};
