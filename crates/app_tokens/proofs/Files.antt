@@ -1,5 +1,5 @@
 -- A whole file, and one with bytes that are no UTF-8.
-use Rattle.std.proofs.Common.{◌≡◌, ℕ, ◌+◌, ◌-◌, ◌<◌, ◌≤◌, ◌==◌, List, length, take, refl, sym, ap, ◌∙◌, arith, Bool, true, false, subst, Result, Ok, Err}
+use Rattle.std.proofs.Common.{◌≡◌, ℕ, ◌<◌, ◌==◌, List, length, take, refl, sym, ap, ◌∙◌, arith, Bool, true, false, Result, Ok, Err}
 use Rattle.std.specs.Str.{IsUtf8}
 use Rattle.std.specs.Str.Lossy.{utf8_valid_len}
 use Rattle.std.specs.Result.{IfOk, IfErr, OnOk}
@@ -42,9 +42,17 @@ whole_refused bytes text (Ok list) same utf8 said = tt
 whole_refused bytes text (Err e) same utf8 said = refused (length bytes) e (tokens_from true 0 0 text) (tokens_of bytes) (tokens_of-whole bytes text same utf8) said
 
 -- a file with a byte that is no UTF-8
-pub broken_accepted : (bytes : List ℕ) (r : Result Tokens TokenError) → OnOk r (false ≡ true) → IfOk r (λ list. tokens_of bytes ≡ Ok list)
-broken_accepted bytes (Ok list) e = cc
-broken_accepted bytes (Err e) h = tt
+pub broken_accepted : (P : Tokens → Type 0) (r : Result Tokens TokenError) → OnOk r (false ≡ true) → IfOk r P
+broken_accepted P (Ok list) e = cc
+broken_accepted P (Err e) h = tt
+
+pub whole_end : (bytes text : List ℕ) (r : Result Tokens TokenError) → text ≡ bytes → IfOk r (λ list. list.end ≡ length text) → IfOk r (λ list. list.end ≡ length bytes)
+whole_end bytes text (Ok list) same end = end ∙ ap length same
+whole_end bytes text (Err e) same end = tt
+
+pub whole_utf8 : (bytes : List ℕ) (r : Result Tokens TokenError) → IsUtf8 bytes → OnOk r (IsUtf8 bytes)
+whole_utf8 bytes (Ok list) utf8 = utf8
+whole_utf8 bytes (Err e) utf8 = tt
 
 pub broken_refused : (bytes front : List ℕ) (n : ℕ) (r : Result Tokens TokenError) → utf8_valid_len bytes ≡ n → front ≡ take n bytes → n < length bytes
     → IfErr r (λ e. Refuses e (tokens_from false 0 0 front)) → IfErr r (λ e. Refuses e (tokens_of bytes))

@@ -1,7 +1,7 @@
 -- The pieces of a file, one after another.
-use Rattle.std.proofs.Common.{◌≡◌, ℕ, zero, suc, ◌+◌, ◌-◌, ◌<◌, ◌≤◌, List, [], ◌∷◌, ◌++◌, length, get_or, drop, take, refl, sym, ap, ◌∙◌, arith, Bool, true, false, cond, not, ◌||◌, ◌&&◌, nat_eq, nat_lt, nat_le, append_assoc, subst, length-drop, Option, Some, None, Result, Ok, Err, lit<}
+use Rattle.std.proofs.Common.{◌≡◌, ℕ, zero, suc, ◌+◌, ◌-◌, ◌<◌, ◌≤◌, List, [], ◌∷◌, ◌++◌, length, get_or, drop, take, refl, sym, ap, ◌∙◌, arith, Bool, true, false, cond, ◌&&◌, nat_eq, nat_lt, nat_le, append_assoc, subst, length-drop, Option, Some, None, Result, Ok, Err, lit<}
 use Rattle.std.specs.Prelude.{take_while, if◌then◌else◌}
-use Rattle.std.specs.Str.{IsUtf8, IsCharBoundary, byte}
+use Rattle.std.specs.Str.{IsUtf8, IsCharBoundary}
 use Rattle.std.proofs.lemmas.Str.{IsCharBoundary-after_ascii, IsUtf8-drop}
 use Rattle.std.specs.Result.{IsErrAnd, IfErr}
 use Rattle.std.proofs.lemmas.List.{append-nil}
@@ -154,7 +154,7 @@ IsCut-symbol (a ∷ b ∷ c ∷ more) s utf8 e =
     (λ x h. IsCut-ascii bs 2 1 utf8 (omega arith) (omega arith) (two_low a b x h))
     (sized bs (one_byte_symbol a) 1 None s (λ x h. IsCut-ascii bs 1 0 utf8 (omega arith) (omega arith) (one_low a x h)) (λ h. cc))) e
 
-abbrev ok : {A : Type 0} → A → Result A TokenError
+abbrev pub ok : {A : Type 0} → A → Result A TokenError
 ok x = Ok x
 
 -- at so many bytes behind a place stands the closing quote

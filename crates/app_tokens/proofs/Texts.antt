@@ -1,8 +1,7 @@
 -- Texts by runs of plain bytes and pairs.
-use Rattle.std.proofs.Common.{◌≡◌, ℕ, zero, suc, ◌+◌, ◌-◌, ◌<◌, ◌≤◌, List, [], ◌∷◌, ◌++◌, length, get_or, drop, take, refl, sym, ap, ◌∙◌, arith, Bool, true, false, cond, not, ◌||◌, nat_eq, nat_lt, append_assoc, subst, length-drop, Option, Some, None, Result, Ok, Err}
+use Rattle.std.proofs.Common.{◌≡◌, ℕ, suc, ◌+◌, ◌-◌, ◌<◌, ◌≤◌, List, [], ◌∷◌, ◌++◌, length, get_or, drop, refl, sym, ap, ◌∙◌, arith, Bool, true, false, cond, not, ◌||◌, nat_eq, nat_lt, append_assoc, subst, length-drop, Option, Some, None, Result, Ok, Err}
 use Rattle.std.specs.Prelude.{take_while, if◌then◌else◌}
-use Rattle.std.specs.Str.{IsUtf8, IsCharBoundary}
-use Rattle.std.proofs.lemmas.Str.{IsCharBoundary-after_ascii}
+use Rattle.std.specs.Str.{IsCharBoundary}
 use Rattle.std.specs.Result.{IsErrAnd}
 use Rattle.std.proofs.lemmas.Result.{err_from_is_err_and}
 use Rattle.std.proofs.lemmas.List.{append-nil}
@@ -78,7 +77,7 @@ none_true false false true e = cc
 none_true false false false e = (refl, refl, refl)
 
 -- a plain byte goes into the value as it is
-text_from-plain : (whole : Bool) (quote place b : ℕ) (value bs : List ℕ) → is_plain b ≡ true
+pub text_from-plain : (whole : Bool) (quote place b : ℕ) (value bs : List ℕ) → is_plain b ≡ true
     → text_from whole quote place value (b ∷ bs) ≡ text_from whole quote (place + 1) (value ++ b ∷ []) bs
 unfolding text_from
 text_from-plain whole quote place b value [] plain =

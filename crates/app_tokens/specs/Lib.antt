@@ -3,3 +3,5 @@ pub mod Symbol
 pub mod Tokens
 pub mod Scan
 pub mod Text
+pub mod Layout
+pub mod Kind

@@ -1,7 +1,8 @@
 -- How the bytes of an app file are cut into tokens.
 --
 -- A file is cut from left to right. At each place stands a piece: a blank, a comment, or a token. The first place at
--- which none can stand gives the refusal.
+-- which none can stand gives the refusal. Places are counted in bytes from 0. `whole` says whether the bytes end with
+-- the file, and not because the next byte is no UTF-8.
 use Rattle.std.specs.Prelude.{◌≡◌, ℕ, zero, suc, ◌+◌, ◌-◌, ◌*◌, Bool, true, false, not, ◌&&◌, ◌||◌, List, [], ◌∷◌, ◌++◌, length, take, take_while, Option, Some, None, Result, Ok, Err, nat_eq, nat_lt, nat_le, if◌then◌else◌, ◌==◌, EachIndex, IsTrue, slice_index}
 use Rattle.std.specs.Str.{byte}
 use Rattle.std.specs.Str.Lossy.{utf8_valid_len}
@@ -11,7 +12,7 @@ use Rattle.app_tokens.specs.declared.token.Kind.TheVariants as kind
 use Rattle.app_tokens.specs.declared.symbol.Symbol.{Symbol}
 use Rattle.app_tokens.specs.declared.word.Word.{Word}
 use Rattle.app_tokens.specs.declared.error.TokenError.{TokenError}
-use Rattle.app_tokens.specs.declared.error.TokenError.TheVariants.{BadByte, OpenText}
+use Rattle.app_tokens.specs.declared.error.TokenError.TheVariants.{BadByte, OpenText, Memory}
 use Rattle.app_tokens.specs.Word.{word_of}
 use Rattle.app_tokens.specs.Symbol.{symbol_of}
 use Rattle.app_tokens.specs.declared.piece.Piece.{Piece}
@@ -35,12 +36,15 @@ is_blank b = nat_eq b 32 || nat_eq b 9 || nat_eq b 10 || nat_eq b 13
 abbrev pub is_of_comment : ℕ → Bool
 is_of_comment b = not (nat_eq b 10)
 
+-- a decimal digit
 abbrev pub is_digit : ℕ → Bool
 is_digit b = nat_le (byte "0") b && nat_le b (byte "9")
 
+-- an ASCII letter
 abbrev pub is_letter : ℕ → Bool
 is_letter b = nat_le (byte "a") b && nat_le b (byte "z") || nat_le (byte "A") b && nat_le b (byte "Z")
 
+-- a byte of a word, behind its first letter
 abbrev pub is_of_word : ℕ → Bool
 is_of_word b = is_letter b || is_digit b || nat_eq b (byte "_")
 
@@ -48,9 +52,11 @@ is_of_word b = is_letter b || is_digit b || nat_eq b (byte "_")
 abbrev pub gap : ℕ → Piece
 gap size = record { size = size; kind = None }
 
+-- so many bytes that are a token
 abbrev pub token : ℕ → Kind → Piece
 token size kind = record { size = size; kind = Some kind }
 
+-- a word that isn't reserved is a name
 abbrev pub kind_of_word : Option Word → Kind
 kind_of_word None = kind.Name
 kind_of_word (Some w) = kind.Word w
@@ -78,10 +84,11 @@ number_piece place digits =
 abbrev pub cut_off : {A : Type 0} → Bool → ℕ → ℕ → Result A TokenError
 cut_off whole quote place = if whole then Err (OpenText quote) else Err (BadByte place)
 
+-- a byte that makes a pair with a backslash before it
 abbrev pub is_pair : ℕ → Bool
 is_pair c = nat_eq c (byte "\"") || nat_eq c (byte "\\") || nat_eq c (byte "n")
 
--- what a backslash and this byte stand for
+-- what a pair stands for: a line feed, or its second byte itself
 abbrev pub meaning_of : ℕ → ℕ
 meaning_of c = if nat_eq c (byte "n") then 10 else c
 
@@ -113,6 +120,7 @@ abbrev pub found_symbol : ℕ → Option (Symbol × ℕ) → Result Piece TokenE
 found_symbol place None = Err (BadByte place)
 found_symbol place (Some s) = Ok (token s.1 (kind.Symbol s.0))
 
+-- a symbol, the longest first
 unfoldable pub symbol_piece : ℕ → List ℕ → Result Piece TokenError
 symbol_piece place bytes = found_symbol place (symbol_of bytes)
 
@@ -152,7 +160,7 @@ tokens_of bytes =
 abbrev pub Refuses : {A : Type 0} → TokenError → Result A TokenError → Type 0
 Refuses (BadByte place) said = said ≡ Err (BadByte place)
 Refuses (OpenText place) said = said ≡ Err (OpenText place)
-Refuses _ said = Unit {0}
+Refuses Memory said = Unit {0}
 
 -- a call answers what is said, unless it finds no memory
 abbrev pub Answers : {A : Type 0} → Result A TokenError → Result A TokenError → Type 0

@@ -10,6 +10,8 @@ mod list;
 mod piece;
 mod scan;
 mod symbol;
+#[cfg(test)]
+mod tests;
 mod text;
 mod token;
 mod word;

@@ -22,7 +22,7 @@ impl<'a> Model for TokenList<'a> {
 }
 
 impl<'a> TokenList<'a> {
-    pub fn new(tokens: Vec<Token<'a>>, end: usize) -> TokenList<'a>
+    pub(crate) fn new(tokens: Vec<Token<'a>>, end: usize) -> TokenList<'a>
         ensures { result ≡ record { tokens = tokens.entry.items; end = end } }
     {
         TokenList { tokens, end }

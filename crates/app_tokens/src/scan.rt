@@ -1,6 +1,8 @@
 //! A file from its first byte to its last.
 
-ghost use Rattle.std.specs.Prelude.{◌≡◌, ◌<◌, ◌+◌, ◌++◌, ◌^◌, length, take, Ok, Err, true, IfOk, IfErr, OnOk};
+ghost use Rattle.std.specs.Prelude.{◌≡◌, ◌+◌, ◌++◌, length, Ok, true, IfOk, IfErr, OnOk};
+ghost use Rattle.std.specs.Str.{IsUtf8};
+ghost use Rattle.app_tokens.specs.Layout.{StandIn};
 ghost use Rattle.app_tokens.specs.Scan.{Refuses, listed, tokens_from, tokens_of};
 
 use crate::error::TokenError;
@@ -60,6 +62,9 @@ fn scan<'a>(alloc: Global, text: &'a str, whole: bool) -> Result<TokenList<'a>, 
 pub fn tokens(alloc: Global, text: &[u8]) -> Result<TokenList<'_>, TokenError>
     ensures accepted { IfOk result (λ list. tokens_of text.now ≡ Ok list) }
     ensures refused { IfErr result (λ error. Refuses error (tokens_of text.now)) }
+    ensures laid_out { IfOk result (λ list. StandIn 0 text.now list.tokens) }
+    ensures end { IfOk result (λ list. list.end ≡ length text.now) }
+    ensures utf8 { OnOk result (IsUtf8 text.now) }
 {
     match str::from_utf8(text) {
         Ok(whole) => scan(alloc, whole, true),

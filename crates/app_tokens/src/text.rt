@@ -1,6 +1,6 @@
 //! Texts, from behind the opening quote to the closing one.
 
-ghost use Rattle.std.specs.Prelude.{◌≡◌, ◌<◌, ◌+◌, ◌∷◌, [], ◌++◌, ◌^◌, length, take, drop, take_while, slice_index, IfOk, OnOk, IfSome, OnSome, IsTrue, SomeIff};
+ghost use Rattle.std.specs.Prelude.{◌≡◌, ◌<◌, ◌+◌, ◌∷◌, [], ◌++◌, ◌^◌, length, drop, take_while, slice_index, IfOk, OnOk, IfSome, OnSome, IsTrue, SomeIff};
 ghost use Rattle.app_tokens.specs.Scan.{Answers, is_pair, meaning_of, cut_off, limited, text_piece};
 ghost use Rattle.app_tokens.specs.Text.{is_plain, pair_of};
 

@@ -1,4 +1,5 @@
 ghost use Rattle.std.specs.Prelude.{◌≡◌, ◌≤◌, pos, neg_ℤ};
+ghost use Rattle.app_tokens.specs.Kind.{same_word, same_symbol, is_word, is_symbol};
 
 use crate::symbol::Symbol;
 use crate::word::Word;
@@ -20,7 +21,7 @@ impl<'a> Model for Spelling<'a> {
 }
 
 impl<'a> Spelling<'a> {
-    pub fn new(text: &'a str) -> Spelling<'a>
+    pub(crate) fn new(text: &'a str) -> Spelling<'a>
         ensures { result ≡ text.now }
     {
         Spelling { text }
@@ -50,7 +51,7 @@ impl Model for Number {
 }
 
 impl Number {
-    pub fn new(value: u64) -> Number
+    pub(crate) fn new(value: u64) -> Number
         requires { value ≤ 9223372036854775807 }
         ensures { result ≡ value }
     {
@@ -98,4 +99,38 @@ pub struct Token<'a> {
     pub kind: Kind,
     pub place: usize,
     pub spelling: Spelling<'a>,
+}
+
+fn same_word(a: Word, b: Word) -> bool
+    ensures { result ≡ same_word a b }
+{
+    a == b
+}
+
+fn same_symbol(a: Symbol, b: Symbol) -> bool
+    ensures { result ≡ same_symbol a b }
+{
+    a == b
+}
+
+impl Kind {
+    /// Whether it is this reserved word.
+    pub fn is_word(&self, word: Word) -> bool
+        ensures { result ≡ is_word word self.now }
+    {
+        match self {
+            Kind::Word(own) => same_word(*own, word),
+            _ => false,
+        }
+    }
+
+    /// Whether it is this symbol.
+    pub fn is_symbol(&self, symbol: Symbol) -> bool
+        ensures { result ≡ is_symbol symbol self.now }
+    {
+        match self {
+            Kind::Symbol(own) => same_symbol(*own, symbol),
+            _ => false,
+        }
+    }
 }
