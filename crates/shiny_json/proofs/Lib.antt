@@ -1,4 +1,6 @@
+pub mod LastTold
 mod Listed
+mod Members
 mod Numbers
 mod Removed
 mod Whole

@@ -2,3 +2,4 @@ pub mod Server
 pub mod Values
 pub mod Client
 pub mod Held
+pub mod Told

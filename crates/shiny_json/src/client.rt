@@ -8,8 +8,10 @@ use rx_value::{Memory, RxInts, RxText, Value};
 use serde_json::{Map, Value as Json};
 use std::alloc::Global;
 
+/// The most bytes that a client message may have.
 const MESSAGE_LIMIT: usize = 65_536;
 
+/// The most numbers that a list may have.
 const LIST_LIMIT: usize = 1_000;
 
 fn whole_number(json: &Json) -> Option<i64>

@@ -75,8 +75,7 @@ fn outcome_entry(alloc: Global, plot: bool, outcome: &Outcome) -> Result<OutputE
         Outcome::Val(value) => value_entry(alloc, plot, value),
         Outcome::Fail(text) => Ok(OutputEntry::Failed(failure_json(alloc, text.as_str())?)),
         Outcome::Stop => Ok(OutputEntry::Failed(silent_json(alloc)?)),
-        Outcome::Cancel => Ok(OutputEntry::Unsaid),
-        Outcome::Running => Ok(OutputEntry::Unsaid),
+        Outcome::Cancel | Outcome::Running => Ok(OutputEntry::Unsaid),
     }
 }
 
