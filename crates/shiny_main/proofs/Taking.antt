@@ -1,18 +1,21 @@
 -- A client message of a transcript's line, from the code's answer to the definition's replay.
-use Rattle.std.proofs.Common.{◌≡◌, ℕ, ◌≤◌, Bool, true, false, ◌&&◌, List, [], ◌∷◌, Option, Some, None, refl, sym, ap, ◌∙◌, subst, arith}
+use Rattle.std.proofs.Common.{◌≡◌, ℕ, ◌≤◌, Bool, true, false, not, ◌&&◌, List, [], ◌∷◌, Option, Some, None, Result, Ok, Err, IfOk, refl, sym, ap, ◌∙◌, subst, arith}
 use Rattle.std.specs.Prelude.{nat_le, nat_eq, bytes_eq, if◌then◌else◌}
 use Rattle.std.proofs.lemmas.Bool.Decides.{nat_tests}
 use Rattle.app_tree.specs.Tree.{Shape}
 use Rattle.shiny_json.specs.declared.message.Pair.{Pair}
 use Rattle.session_model.specs.declared.event.Event.TheVariants.{Text}
-use Rattle.session_model.specs.Alone.{ending, course_of}
+use Rattle.session_model.specs.Alone.{Ending, spent, ending, course_of}
 use Rattle.session_model.specs.Early.{early_pairs}
 use Rattle.session_model.specs.Transcript.{Open, with_event, event_output, recv, Replayed, stopped, bad_line, after_output, received, if_early, is_taken, replay_line, line_count_limit}
 use Rattle.session_model.proofs.EarlyMessages.{early_init, early_update}
+use Rattle.flush_cycle.specs.declared.stage.Stage.{Stage}
 use Rattle.flush_cycle.specs.declared.stage.Stage.TheVariants as stage
+use Rattle.shiny_main.specs.declared.replay.Taken.{Taken}
+use Rattle.shiny_main.specs.declared.replay.Taken.TheVariants as taken
 use Rattle.shiny_main.specs.declared.session.OpenSession.{OpenSession}
 use Rattle.shiny_main.specs.declared.session.Answered.{Answered}
-use Rattle.shiny_main.specs.Replaying.{EndsSo, HoldsOpen, AnswersFirst, AnswersLater, GoesOn}
+use Rattle.shiny_main.specs.Replaying.{EndsSo, HoldsOpen, AnswersFirst, AnswersLater, Updates, TakesRecv, GoesOn}
 
 pub fits_limit : (k : ℕ) → k ≤ 200 → nat_le k line_count_limit ≡ true
 fits_limit k h = grind (arith, nat_tests)
@@ -55,3 +58,37 @@ later_goes app k s code label text pairs answered within same early holds at ans
       holds = answer.holds;
       is = λ next. goes_is app k false label text s pairs answered.output next (taken_is k label s within same) early none answer.output;
     }
+
+over_is : (at : Stage) (end : Option Ending) → EndsSo at end → (at ≡ stage.Open → ⊥) → end ≡ Some spent
+over_is stage.New end e h = absurd e
+over_is stage.Open end e h = absurd (h refl)
+over_is stage.Over end e h = e
+
+pub later_takes : (app : Shape) (k : ℕ) (s : Open) (code : OpenSession) (label text : List ℕ) (pairs : List Pair) (t : Taken) → k ≤ 200 → label ≡ s.label → early_pairs app false text ≡ Some pairs
+    → HoldsOpen app s code → Updates code pairs t → TakesRecv app k (Some s) (Some (recv label text)) t
+later_takes app k s code label text pairs (taken.Answered answered) within same early holds u = later_goes app k s code label text pairs answered within same early holds u.0 u.1
+later_takes app k s code label text pairs taken.Bad within same early holds u = absurd u
+later_takes app k s code label text pairs taken.NoSession within same early holds u = λ next.
+    ap (λ b. if b then if_early app k text s (early_pairs app false text) next else stopped (bad_line k)) (taken_is k label s within same) ∙ ap (λ o. if_early app k text s o next) early
+    ∙ ap (λ e. received app k (Text text) s e next) (over_is code.flusher.stage (ending app s.journal) holds.ending u)
+later_takes app k s code label text pairs taken.Memory within same early holds u = tt
+
+pub if_ok : {A E : Type 0} (P Q : A → Type 0) (r : Result A E) → ((a : A) → P a → Q a) → IfOk r P → IfOk r Q
+if_ok P Q (Ok a) h p = h a p
+if_ok P Q (Err e) h p = tt
+
+bytes_same : (xs ys : List ℕ) → bytes_eq xs ys ≡ true → xs ≡ ys
+bytes_same [] [] e = refl
+bytes_same [] (y ∷ ys) e = cc
+bytes_same (x ∷ xs) [] e = cc
+bytes_same (x ∷ xs) (y ∷ ys) e =
+    let one : x ≡ y = grind (arith, nat_tests, e) in
+    let rest : bytes_eq xs ys ≡ true = grind (arith, nat_tests, e) in
+    ap (λ z. z ∷ xs) one ∙ ap (λ l. y ∷ l) (bytes_same xs ys rest)
+
+not_not : (b : Bool) → false ≡ not b → b ≡ true
+not_not true e = refl
+not_not false e = cc
+
+pub label_is : (label held : List ℕ) (differs : Bool) → differs ≡ not (bytes_eq label held) → differs ≡ false → label ≡ held
+label_is label held differs e f = bytes_same label held (not_not (bytes_eq label held) (sym f ∙ e))

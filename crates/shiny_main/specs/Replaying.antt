@@ -1,5 +1,5 @@
 -- What the parts of a replay answer, in the words of its definition.
-use Rattle.std.specs.Prelude.{◌≡◌, ◌≤◌, ℕ, Bool, true, false, List, [], ◌∷◌, ◌++◌, Option, Some, None, IfSome, ⊤, codes}
+use Rattle.std.specs.Prelude.{◌≡◌, ◌≢◌, ◌≤◌, ℕ, Bool, true, false, List, [], ◌∷◌, ◌++◌, Option, Some, None, IfSome, ⊤, codes}
 use Rattle.std.specs.Option.{option_map}
 use Rattle.std.specs.Io.KnownBytes.{append_known, IsAtEnd}
 use Rattle.rx_ports.specs.Faults.{Rose}
@@ -74,3 +74,10 @@ TakesRecv app k session line (taken.Answered answered) = GoesOn app k session li
 TakesRecv app k session line taken.Bad = (next : Option Open → Replayed) → replay_line app k session line next ≡ stopped (bad_line k)
 TakesRecv app k session line taken.NoSession = (next : Option Open → Replayed) → replay_line app k session line next ≡ stopped (no_session k)
 TakesRecv app k session line taken.Memory = ⊤
+
+-- an update was handed to a session: it was answered where the session went on, and refused where it was over
+abbrev pub Updates : OpenSession → List Pair → Taken → Type 0
+Updates code pairs (taken.Answered answered) = (code.flusher.stage ≡ stage.Open) × AnswersLater code pairs answered
+Updates code pairs taken.Bad = ⊥
+Updates code pairs taken.NoSession = code.flusher.stage ≢ stage.Open
+Updates code pairs taken.Memory = ⊤

@@ -1,13 +1,15 @@
-ghost use Rattle.std.specs.Prelude.{◌≡◌, None, Some, IfOk};
+ghost use Rattle.std.specs.Prelude.{◌≡◌, Option, None, Some, IfOk};
 ghost use Rattle.app_tree.specs.View.{shape_of};
-ghost use Rattle.session_model.specs.Transcript.{Open, recv as recv_line};
-ghost use Rattle.shiny_main.specs.Replaying.{HoldsOpen, TakesRecv};
+ghost use Rattle.session_model.specs.Transcript.{Open, line_of, recv as recv_line};
+ghost use Rattle.session_model.specs.Early.{early_pairs};
+ghost use Rattle.shiny_main.specs.Replaying.{AnswersFirst, HoldsOpen, HoldsSession, Updates, TakesRecv};
 
-use crate::line::Recv;
+use crate::line::{Recv, line_of};
 use crate::session::{Answered, OpenSession, answer_first, answer_later};
 use app_tree::App;
 use flush_cycle::{Stage, read_early};
 use rx_value::{Memory, RxText};
+use shiny_json::ClientData;
 use std::alloc::Global;
 use std::sync::Arc;
 
@@ -25,19 +27,45 @@ pub enum Taken {
     Memory,
 }
 
+/// What a message sets, where its text has the form that is taken today.
+fn early_pairs(
+    alloc: Global,
+    app: &App,
+    first: bool,
+    text: &str,
+) -> Result<Option<ClientData>, Memory>
+    ensures { IfOk result (λ pairs. pairs ≡ early_pairs (shape_of app.now) first text.now) }
+{
+    let text = RxText::from_str(alloc, text)?;
+    read_early(alloc, app, first, &text)
+}
+
+/// Opens a session of this label with its init.
+fn opened(
+    alloc: Global,
+    app: &Arc<App>,
+    label: &str,
+    pairs: &ClientData,
+) -> Result<Answered, Memory>
+    ensures { IfOk result (λ a. AnswersFirst (shape_of app.now.value) label.now pairs.now a) }
+{
+    let label = RxText::from_str(alloc, label)?;
+    answer_first(alloc, app.clone()?, &label, pairs)
+}
+
 fn first_recv(alloc: Global, app: &Arc<App>, number: u64, recv: Recv<'_>) -> Result<Taken, Memory>
     ensures { IfOk result (λ t. TakesRecv (shape_of app.now.value) number None (Some (recv_line recv.entry.label.now recv.entry.text.now)) t) }
 {
     if number > LINE_COUNT_LIMIT {
         return Ok(Taken::Bad);
     }
-    let text = RxText::from_str(alloc, recv.text)?;
-    let Some(pairs) = read_early(alloc, app, true, &text)? else {
-        return Ok(Taken::Bad);
-    };
-    let label = RxText::from_str(alloc, recv.label)?;
-    let answered = answer_first(alloc, app.clone()?, &label, &pairs)?;
-    Ok(Taken::Answered(answered))
+    match early_pairs(alloc, app, true, recv.text)? {
+        Some(pairs) => {
+            let answered = opened(alloc, app, recv.label, &pairs)?;
+            Ok(Taken::Answered(answered))
+        }
+        None => Ok(Taken::Bad),
+    }
 }
 
 fn later_recv(
@@ -49,15 +77,57 @@ fn later_recv(
 ) -> Result<Taken, Memory>
     ensures { IfOk result (λ t. (s : Open) → HoldsOpen (shape_of app.now) s session → TakesRecv (shape_of app.now) number (Some s) (Some (recv_line recv.entry.label.now recv.entry.text.now)) t) }
 {
-    if number > LINE_COUNT_LIMIT || recv.label != session.label.as_str() {
+    if number > LINE_COUNT_LIMIT {
         return Ok(Taken::Bad);
     }
-    let text = RxText::from_str(alloc, recv.text)?;
-    let Some(pairs) = read_early(alloc, app, false, &text)? else {
+    if recv.label != session.label.as_str() {
         return Ok(Taken::Bad);
-    };
+    }
+    match early_pairs(alloc, app, false, recv.text)? {
+        Some(pairs) => update(alloc, session, &pairs),
+        None => Ok(Taken::Bad),
+    }
+}
+
+fn update(alloc: Global, session: OpenSession, pairs: &ClientData) -> Result<Taken, Memory>
+    ensures { IfOk result (λ t. Updates session pairs.now t) }
+{
     match session.flusher.stage() {
-        Stage::Open => Ok(Taken::Answered(answer_later(alloc, session, &pairs)?)),
+        Stage::Open => {
+            let answered = answer_later(alloc, session, pairs)?;
+            Ok(Taken::Answered(answered))
+        }
         Stage::New | Stage::Over => Ok(Taken::NoSession),
+    }
+}
+
+fn take_recv(
+    alloc: Global,
+    app: &Arc<App>,
+    session: Option<OpenSession>,
+    number: u64,
+    recv: Recv<'_>,
+) -> Result<Taken, Memory>
+    ensures { IfOk result (λ t. (s : Option Open) → HoldsSession (shape_of app.now.value) s session → TakesRecv (shape_of app.now.value) number s (Some (recv_line recv.entry.label.now recv.entry.text.now)) t) }
+{
+    match session {
+        None => first_recv(alloc, app, number, recv),
+        Some(session) => later_recv(alloc, app, session, number, recv),
+    }
+}
+
+/// Takes a line of the transcript: its message is applied to its session.
+pub fn take_line(
+    alloc: Global,
+    app: &Arc<App>,
+    session: Option<OpenSession>,
+    number: u64,
+    line: &[u8],
+) -> Result<Taken, Memory>
+    ensures { IfOk result (λ t. (s : Option Open) → HoldsSession (shape_of app.now.value) s session → TakesRecv (shape_of app.now.value) number s (line_of line.now) t) }
+{
+    match line_of(line) {
+        Some(recv) => take_recv(alloc, app, session, number, recv),
+        None => Ok(Taken::Bad),
     }
 }
