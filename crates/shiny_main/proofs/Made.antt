@@ -1,5 +1,5 @@
 -- A loop over the items as they are written has come to a place.
-use Rattle.std.proofs.Common.{◌≡◌, ℕ, suc, ◌≤◌, List, [], ◌∷◌, ◌++◌, map, drop, Option, Some, None, refl, sym, ap, ◌∙◌, append_assoc}
+use Rattle.std.proofs.Common.{◌≡◌, ℕ, ◌≤◌, List, ◌++◌, map, drop, Option, Some, None}
 use Rattle.app_tree.specs.Tree.{Node}
 use Rattle.shiny_main.specs.declared.draft.Written.{Written}
 use Rattle.shiny_main.specs.AppForm.{input_place}

@@ -1,5 +1,5 @@
-use Rattle.std.proofs.Common.{◌≡◌, ◌++◌, ◌∷◌, [], sym, subst, arith}
-use Rattle.shiny_main.proofs.Drafts.{Spelled, spelled_none, spelled_more, spelled_broken, spelled_full}
+use Rattle.std.proofs.Common.{arith}
+use Rattle.shiny_main.proofs.Drafts.{spelled_none, spelled_more, spelled_broken, spelled_full}
 use Rattle.shiny_main.proofs.draft.written_items.Goals as goal
 
 pub loop-place-init : goal.loop-place-init
