@@ -5,3 +5,4 @@ pub mod Drafts
 pub mod Made
 pub mod Answering
 pub mod Taking
+pub mod Turns

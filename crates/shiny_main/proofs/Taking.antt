@@ -71,7 +71,6 @@ later_takes app k s code label text pairs taken.Bad within same early holds u = 
 later_takes app k s code label text pairs taken.NoSession within same early holds u = λ next.
     ap (λ b. if b then if_early app k text s (early_pairs app false text) next else stopped (bad_line k)) (taken_is k label s within same) ∙ ap (λ o. if_early app k text s o next) early
     ∙ ap (λ e. received app k (Text text) s e next) (over_is code.flusher.stage (ending app s.journal) holds.ending u)
-later_takes app k s code label text pairs taken.Memory within same early holds u = tt
 
 pub if_ok : {A E : Type 0} (P Q : A → Type 0) (r : Result A E) → ((a : A) → P a → Q a) → IfOk r P → IfOk r Q
 if_ok P Q (Ok a) h p = h a p

@@ -60,7 +60,7 @@ StepGives old line longer taken left step.Memory = ⊤
 
 -- the first line is longer than any line may be
 abbrev pub BeginsTooLong : List (List ℕ) → Type 0
-BeginsTooLong [] = ⊤
+BeginsTooLong [] = ⊥
 BeginsTooLong (line ∷ more) = line_limit < length line
 
 -- the first line, or that there is none, where the lines are told

@@ -1,8 +1,10 @@
 -- What the parts of a replay answer, in the words of its definition.
-use Rattle.std.specs.Prelude.{◌≡◌, ◌≢◌, ◌≤◌, ℕ, Bool, true, false, List, [], ◌∷◌, ◌++◌, Option, Some, None, IfSome, ⊤, codes}
+use Rattle.std.specs.Prelude.{◌≡◌, ◌≢◌, ◌≤◌, ℕ, suc, Bool, true, false, List, [], ◌∷◌, ◌++◌, Option, Some, None, Result, Ok, Err, IfSome, ⊤, codes}
 use Rattle.std.specs.Option.{option_map}
 use Rattle.std.specs.Io.KnownBytes.{append_known, IsAtEnd}
 use Rattle.rx_ports.specs.Faults.{Rose}
+use Rattle.rx_ports.specs.Sink.{PutsFront}
+use Rattle.rx_value.specs.declared.memory.Memory.{Memory}
 use Rattle.app_tree.specs.Tree.{Shape}
 use Rattle.app_tree.specs.View.{shape_of}
 use Rattle.shiny_json.specs.declared.message.Pair.{Pair}
@@ -10,13 +12,17 @@ use Rattle.shiny_json.specs.declared.message.Client.TheVariants.{Init, Update}
 use Rattle.shiny_json.specs.Client.{client_message}
 use Rattle.session_model.specs.declared.event.Event.TheVariants.{Text, End}
 use Rattle.session_model.specs.Alone.{Ending, spent, course_of}
-use Rattle.session_model.specs.Transcript.{send_lines, over_text, Open, with_event, event_output, Line, ReplayEnd, done, bad_line, no_session, Replayed, stopped, after_output, replay_line, replayed, line_count_limit}
+use Rattle.session_model.specs.Transcript.{send_lines, over_text, Open, with_event, event_output, Line, ReplayEnd, done, bad_line, no_session, Replayed, stopped, after_output, replay_line, replay_from, line_count_limit}
 use Rattle.flush_cycle.specs.declared.stage.Stage.{Stage}
 use Rattle.flush_cycle.specs.declared.stage.Stage.TheVariants as stage
 use Rattle.shiny_main.specs.declared.session.OpenSession.{OpenSession}
 use Rattle.shiny_main.specs.declared.session.Answered.{Answered}
 use Rattle.shiny_main.specs.declared.replay.Taken.{Taken}
 use Rattle.shiny_main.specs.declared.replay.Taken.TheVariants as taken
+use Rattle.shiny_main.specs.declared.transcript.Replayed.{Replayed as ReplayAnswer}
+use Rattle.shiny_main.specs.declared.transcript.Replayed.TheVariants as answer
+use Rattle.shiny_main.specs.declared.transcript.Turn.{Turn}
+use Rattle.shiny_main.specs.declared.transcript.Turn.TheVariants as turn
 
 -- a session that goes on takes further events; one that is over ended by its budget
 abbrev pub EndsSo : Stage → Option Ending → Type 0
@@ -73,11 +79,95 @@ abbrev pub TakesRecv : Shape → ℕ → Option Open → Option Line → Taken �
 TakesRecv app k session line (taken.Answered answered) = GoesOn app k session line answered
 TakesRecv app k session line taken.Bad = (next : Option Open → Replayed) → replay_line app k session line next ≡ stopped (bad_line k)
 TakesRecv app k session line taken.NoSession = (next : Option Open → Replayed) → replay_line app k session line next ≡ stopped (no_session k)
-TakesRecv app k session line taken.Memory = ⊤
 
 -- an update was handed to a session: it was answered where the session went on, and refused where it was over
 abbrev pub Updates : OpenSession → List Pair → Taken → Type 0
 Updates code pairs (taken.Answered answered) = (code.flusher.stage ≡ stage.Open) × AnswersLater code pairs answered
 Updates code pairs taken.Bad = ⊥
 Updates code pairs taken.NoSession = code.flusher.stage ≢ stage.Open
-Updates code pairs taken.Memory = ⊤
+
+-- ---- turns
+
+-- the lines that are left end the replay so, and this was written
+pub record Ends (app : Shape) (k : ℕ) (session : Option Open) (lines : Option (List (List ℕ))) (before after : Option (List ℕ)) (end : ReplayEnd) : Type 0 where
+  pub output : List ℕ
+  pub sank : after ≡ append_known before output
+  pub is : IfSome lines (λ ls. replay_from app k session ls ≡ record { output = output; end = end })
+
+-- a front of their output was written
+pub record Stops (app : Shape) (k : ℕ) (session : Option Open) (lines : Option (List (List ℕ))) (before after : Option (List ℕ)) : Type 0 where
+  pub output : List ℕ
+  pub sank : after ≡ append_known before output
+  pub front : IfSome lines (λ ls. (more : List ℕ) × ((replay_from app k session ls).output ≡ output ++ more))
+
+-- one line was answered, and the replay goes on with those behind it
+pub record Went (app : Shape) (k : ℕ) (session : Option Open) (code : OpenSession) (lines rest : Option (List (List ℕ))) (before after : Option (List ℕ)) : Type 0 where
+  pub within : k ≤ line_count_limit
+  pub next : Open
+  pub holds : HoldsOpen app next code
+  pub output : List ℕ
+  pub sank : after ≡ append_known before output
+  pub is : option_map (replay_from app k session) lines ≡ option_map (λ ls. after_output output (replay_from app (suc k) (Some next) ls)) rest
+
+-- how a replay ended, with what was written
+abbrev pub ReplayGives : Shape → ℕ → Option Open → Option (List (List ℕ)) → Option (List ℕ) → Option (List ℕ) → Option (List ℕ) → ReplayAnswer → Type 0
+ReplayGives app k s lines left before after answer.Done = Ends app k s lines before after done × IsAtEnd left
+ReplayGives app k s lines left before after (answer.BadLine j) = Ends app k s lines before after (bad_line j)
+ReplayGives app k s lines left before after (answer.NoSession j) = Ends app k s lines before after (no_session j)
+ReplayGives app k s lines left before after answer.ReadFault = Stops app k s lines before after
+ReplayGives app k s lines left before after answer.WriteFault = Stops app k s lines before after
+ReplayGives app k s lines left before after answer.Memory = Stops app k s lines before after
+
+abbrev pub TurnGives : Shape → ℕ → Option Open → Option (List (List ℕ)) → Option (List (List ℕ)) → Option (List ℕ) → Option (List ℕ) → Option (List ℕ) → Turn → Type 0
+TurnGives app k s lines rest left before after (turn.Goes code) = Went app k s code lines rest before after
+TurnGives app k s lines rest left before after (turn.Ends a) = ReplayGives app k s lines left before after a
+
+-- a fault is answered only where its count rose
+abbrev pub ReadFaults : ℕ → ℕ → ReplayAnswer → Type 0
+ReadFaults before now answer.ReadFault = Rose before now
+ReadFaults before now _ = ⊤
+
+abbrev pub WriteFaults : ℕ → ℕ → ReplayAnswer → Type 0
+WriteFaults before now answer.WriteFault = Rose before now
+WriteFaults before now _ = ⊤
+
+abbrev pub TurnReadFaults : ℕ → ℕ → Turn → Type 0
+TurnReadFaults before now (turn.Goes code) = ⊤
+TurnReadFaults before now (turn.Ends a) = ReadFaults before now a
+
+abbrev pub TurnWriteFaults : ℕ → ℕ → Turn → Type 0
+TurnWriteFaults before now (turn.Goes code) = ⊤
+TurnWriteFaults before now (turn.Ends a) = WriteFaults before now a
+
+-- an answer was put, and the session goes on; or a front of it was
+abbrev pub PutsAnswer : Answered → Option (List ℕ) → Option (List ℕ) → Turn → Type 0
+PutsAnswer answered before after (turn.Goes code) = (code ≡ answered.session) × (after ≡ append_known before answered.output)
+PutsAnswer answered before after (turn.Ends answer.WriteFault) = PutsFront before after answered.output
+PutsAnswer answered before after (turn.Ends _) = ⊥
+
+-- the over line was put, or a front of it
+abbrev pub PutsOver : List ℕ → Option (List ℕ) → Option (List ℕ) → ReplayAnswer → Type 0
+PutsOver label before after answer.Done = after ≡ append_known before (over_text label (codes "ended"))
+PutsOver label before after answer.WriteFault = PutsFront before after (over_text label (codes "ended"))
+PutsOver label before after answer.Memory = after ≡ before
+PutsOver label before after _ = ⊥
+
+abbrev pub ClosesAt : Stage → List ℕ → Option (List ℕ) → Option (List ℕ) → ReplayAnswer → Type 0
+ClosesAt stage.Open label before after a = PutsOver label before after a
+ClosesAt stage.New label before after a = (after ≡ before) × (a ≡ answer.Done)
+ClosesAt stage.Over label before after a = (after ≡ before) × (a ≡ answer.Done)
+
+-- a session that goes on gets its over line
+abbrev pub ClosesOpen : OpenSession → Option (List ℕ) → Option (List ℕ) → ReplayAnswer → Type 0
+ClosesOpen code before after a = ClosesAt code.flusher.stage code.label before after a
+
+abbrev pub Closes : Option OpenSession → Option (List ℕ) → Option (List ℕ) → ReplayAnswer → Type 0
+Closes (Some code) before after a = ClosesOpen code before after a
+Closes None before after a = (after ≡ before) × (a ≡ answer.Done)
+
+-- what was taken was answered: its output was put, or its refusal told
+abbrev pub AnswersTaken : Result Taken Memory → ℕ → Option (List ℕ) → Option (List ℕ) → Turn → Type 0
+AnswersTaken (Ok (taken.Answered answered)) k before after t = PutsAnswer answered before after t
+AnswersTaken (Ok taken.Bad) k before after t = (after ≡ before) × (t ≡ turn.Ends (answer.BadLine k))
+AnswersTaken (Ok taken.NoSession) k before after t = (after ≡ before) × (t ≡ turn.Ends (answer.NoSession k))
+AnswersTaken (Err e) k before after t = (after ≡ before) × (t ≡ turn.Ends answer.Memory)

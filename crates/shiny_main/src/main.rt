@@ -8,6 +8,7 @@ mod load;
 mod replay;
 mod session;
 mod status;
+mod transcript;
 mod words;
 
 fn main() {}

@@ -24,7 +24,6 @@ pub enum Taken {
     Bad,
     /// The line's session is over.
     NoSession,
-    Memory,
 }
 
 /// What a message sets, where its text has the form that is taken today.

@@ -1,0 +1,136 @@
+ghost use Rattle.std.specs.Prelude.{◌≡◌, ◌≤◌, Option, IfOk, codes};
+ghost use Rattle.app_tree.specs.View.{shape_of};
+ghost use Rattle.session_model.specs.Transcript.{Open, over_text};
+ghost use Rattle.shiny_main.specs.Lines.{remaining};
+ghost use Rattle.shiny_main.specs.Replaying.{HoldsSession, PutsAnswer, PutsOver, ClosesOpen, Closes, AnswersTaken, TurnGives, WriteFaults, TurnReadFaults, TurnWriteFaults};
+
+use crate::lines::{Lines, NextLine};
+use crate::replay::{Taken, take_line};
+use crate::session::{Answered, OpenSession, push_over};
+use app_tree::App;
+use flush_cycle::Stage;
+use rx_ports::{Put, Sink, Source};
+use rx_value::{Memory, RxText};
+use std::alloc::Global;
+use std::sync::Arc;
+
+/// How a replay ended. Lines are numbered from 1.
+#[derive(Clone, Copy, Debug, PartialEq, Eq)]
+pub enum Replayed {
+    /// The input was read to its end, and every line was taken.
+    Done,
+    /// The first line that is refused has not the form that is taken today.
+    BadLine(u64),
+    /// The first line that is refused is for a session that is over.
+    NoSession(u64),
+    /// The input could not be read.
+    ReadFault,
+    /// The output could not be written.
+    WriteFault,
+    Memory,
+}
+
+/// What one line came to: the replay goes on with its session, or ends.
+#[derive(Drop)]
+pub enum Turn {
+    Goes(OpenSession),
+    Ends(Replayed),
+}
+
+fn put_answer<K: Sink>(out: &mut K, answered: Answered) -> Turn
+    ensures gives { PutsAnswer answered (K.held out.old) (K.held out.new) result }
+    ensures later { K.faults out.old ≤ K.faults out.new }
+    ensures failed { TurnWriteFaults (K.faults out.old) (K.faults out.new) result }
+{
+    let Answered { session, output } = answered;
+    match out.put(output.as_str().as_bytes()) {
+        Put::Ok => Turn::Goes(session),
+        Put::Failed => Turn::Ends(Replayed::WriteFault),
+    }
+}
+
+fn over_line(alloc: Global, label: &RxText) -> Result<RxText, Memory>
+    ensures { IfOk result (λ line. line ≡ over_text label.now (codes "ended")) }
+{
+    let mut line = RxText::new(alloc);
+    push_over(&mut line, label, "ended")?;
+    Ok(line)
+}
+
+/// Ends the links of the sessions that are open.
+fn close<K: Sink>(alloc: Global, session: Option<OpenSession>, out: &mut K) -> Replayed
+    ensures gives { Closes session (K.held out.old) (K.held out.new) result }
+    ensures later { K.faults out.old ≤ K.faults out.new }
+    ensures failed { WriteFaults (K.faults out.old) (K.faults out.new) result }
+{
+    match session {
+        Some(session) => close_open(alloc, session, out),
+        None => Replayed::Done,
+    }
+}
+
+fn close_open<K: Sink>(alloc: Global, session: OpenSession, out: &mut K) -> Replayed
+    ensures gives { ClosesOpen session (K.held out.old) (K.held out.new) result }
+    ensures later { K.faults out.old ≤ K.faults out.new }
+    ensures failed { WriteFaults (K.faults out.old) (K.faults out.new) result }
+{
+    match session.flusher.stage() {
+        Stage::Open => put_over(alloc, &session.label, out),
+        Stage::New | Stage::Over => Replayed::Done,
+    }
+}
+
+fn put_over<K: Sink>(alloc: Global, label: &RxText, out: &mut K) -> Replayed
+    ensures gives { PutsOver label.now (K.held out.old) (K.held out.new) result }
+    ensures later { K.faults out.old ≤ K.faults out.new }
+    ensures failed { WriteFaults (K.faults out.old) (K.faults out.new) result }
+{
+    match over_line(alloc, label) {
+        Ok(line) => match out.put(line.as_str().as_bytes()) {
+            Put::Ok => Replayed::Done,
+            Put::Failed => Replayed::WriteFault,
+        },
+        Err(Memory) => Replayed::Memory,
+    }
+}
+
+fn take_turn<S: Source, K: Sink>(
+    alloc: Global,
+    app: &Arc<App>,
+    lines: &mut Lines,
+    session: Option<OpenSession>,
+    number: u64,
+    input: &mut S,
+    out: &mut K,
+) -> Turn
+    ensures gives { (s : Option Open) → HoldsSession (shape_of app.now.value) s session → TurnGives (shape_of app.now.value) number s (remaining lines.old (S.left input.old)) (remaining lines.new (S.left input.new)) (S.left input.new) (K.held out.old) (K.held out.new) result }
+    ensures read_later { S.faults input.old ≤ S.faults input.new }
+    ensures write_later { K.faults out.old ≤ K.faults out.new }
+    ensures read { TurnReadFaults (S.faults input.old) (S.faults input.new) result }
+    ensures write { TurnWriteFaults (K.faults out.old) (K.faults out.new) result }
+{
+    match lines.next(alloc, input) {
+        NextLine::Line(line) => {
+            let taken = take_line(alloc, app, session, number, line.as_slice());
+            answer_taken(taken, number, out)
+        }
+        NextLine::TooLong => Turn::Ends(Replayed::BadLine(number)),
+        NextLine::End => Turn::Ends(close(alloc, session, out)),
+        NextLine::Failed => Turn::Ends(Replayed::ReadFault),
+        NextLine::Memory => Turn::Ends(Replayed::Memory),
+    }
+}
+
+fn answer_taken<K: Sink>(taken: Result<Taken, Memory>, number: u64, out: &mut K) -> Turn
+    ensures gives { AnswersTaken taken number (K.held out.old) (K.held out.new) result }
+    ensures later { K.faults out.old ≤ K.faults out.new }
+    ensures failed { TurnWriteFaults (K.faults out.old) (K.faults out.new) result }
+    ensures read { TurnReadFaults 0 0 result }
+{
+    match taken {
+        Ok(Taken::Answered(answered)) => put_answer(out, answered),
+        Ok(Taken::Bad) => Turn::Ends(Replayed::BadLine(number)),
+        Ok(Taken::NoSession) => Turn::Ends(Replayed::NoSession(number)),
+        Err(Memory) => Turn::Ends(Replayed::Memory),
+    }
+}
