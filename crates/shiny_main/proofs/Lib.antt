@@ -6,3 +6,5 @@ pub mod Made
 pub mod Answering
 pub mod Taking
 pub mod Turns
+pub mod Replays
+pub mod Tops

@@ -1,5 +1,5 @@
 -- One line of a replay, and its end, from the code's answers to the definition's replay.
-use Rattle.std.proofs.Common.{◌≡◌, ℕ, suc, ◌+◌, ◌<◌, ◌≤◌, Bool, true, false, ◌&&◌, List, [], ◌∷◌, ◌++◌, length, take, drop, Option, Some, None, IfSome, refl, sym, ap, ◌∙◌, subst, arith, append_assoc, append-nil, take-append-drop}
+use Rattle.std.proofs.Common.{◌≡◌, ℕ, suc, ◌+◌, ◌<◌, ◌≤◌, Bool, true, false, ◌&&◌, List, [], ◌∷◌, ◌++◌, length, take, drop, Option, Some, None, IfSome, Result, Ok, Err, IfOk, refl, sym, ap, ◌∙◌, subst, arith, append_assoc, append-nil, take-append-drop}
 use Rattle.std.specs.Prelude.{nat_le, codes, if◌then◌else◌}
 use Rattle.std.proofs.lemmas.Bool.Decides.{nat_tests}
 use Rattle.std.specs.Option.{option_map}
@@ -16,13 +16,15 @@ use Rattle.flush_cycle.specs.declared.stage.Stage.{Stage}
 use Rattle.flush_cycle.specs.declared.stage.Stage.TheVariants as stage
 use Rattle.shiny_main.specs.declared.session.OpenSession.{OpenSession}
 use Rattle.shiny_main.specs.declared.session.Answered.{Answered}
+use Rattle.rx_value.specs.declared.memory.Memory.{Memory}
+use Rattle.shiny_main.specs.declared.replay.Taken.{Taken}
 use Rattle.shiny_main.specs.declared.replay.Taken.TheVariants as taken
 use Rattle.shiny_main.specs.declared.transcript.Replayed.{Replayed as ReplayAnswer}
 use Rattle.shiny_main.specs.declared.transcript.Replayed.TheVariants as answer
 use Rattle.shiny_main.specs.declared.transcript.Turn.{Turn}
 use Rattle.shiny_main.specs.declared.transcript.Turn.TheVariants as turn
 use Rattle.shiny_main.specs.Lines.{BeginsTooLong}
-use Rattle.shiny_main.specs.Replaying.{EndsSo, HoldsOpen, HoldsSession, GoesOn, TakesRecv, PutsAnswer, PutsOver, ClosesAt, ClosesOpen, Closes, Ends, Stops, Went, ReplayGives, TurnGives}
+use Rattle.shiny_main.specs.Replaying.{EndsSo, HoldsOpen, HoldsSession, GoesOn, TakesRecv, PutsAnswer, PutsOver, ClosesAt, ClosesOpen, Closes, Ends, Stops, Went, ReplayGives, TurnGives, AnswersTaken}
 
 pub nothing_put : (held : Option (List ℕ)) → held ≡ append_known held []
 nothing_put None = refl
@@ -157,3 +159,21 @@ close_gives app k None (Some code) lines left before after a holds none end c = 
 close_gives app k (Some s) None lines left before after a holds none end c = absurd holds
 close_gives app k (Some s) (Some code) lines left before after a holds none end c =
     stage_end app k s code.flusher.stage lines left before after a none end holds.ending (subst (λ l. ClosesAt code.flusher.stage l before after a) holds.label c)
+
+-- ---- a whole turn
+
+turn_at : (app : Shape) (k : ℕ) (s : Option Open) (lines rest : Option (List (List ℕ))) (left before after : Option (List ℕ)) (t : Turn) (a : ReplayAnswer) → t ≡ turn.Ends a → ReplayGives app k s lines left before after a
+    → TurnGives app k s lines rest left before after t
+turn_at app k s lines rest left before after t a e h = subst (TurnGives app k s lines rest left before after) (sym e) h
+
+ends_with : (app : Shape) (k : ℕ) (s : Option Open) (lines : Option (List (List ℕ))) (before after : Option (List ℕ)) (end : ReplayEnd) → after ≡ before → Ends app k s lines before before end → Ends app k s lines before after end
+ends_with app k s lines before after end e h = record { output = h.output; sank = e ∙ h.sank; is = h.is }
+
+pub taken_turn : (app : Shape) (k : ℕ) (s : Option Open) (line : List ℕ) (lines rest : Option (List (List ℕ))) (left before after : Option (List ℕ)) (t : Result Taken Memory) (answered : Turn)
+    → lines ≡ option_map (λ ls. line ∷ ls) rest → IfOk t (TakesRecv app k s (line_of line)) → AnswersTaken t k before after answered → TurnGives app k s lines rest left before after answered
+taken_turn app k s line lines rest left before after (Ok (taken.Answered a)) answered e takes gives = answer_put app k s line a lines rest left before after answered e takes gives
+taken_turn app k s line lines rest left before after (Ok taken.Bad) answered e takes gives =
+    turn_at app k s lines rest left before after answered (answer.BadLine k) gives.1 (ends_with app k s lines before after (bad_line k) gives.0 (line_refused app k s line (bad_line k) lines rest before e takes))
+taken_turn app k s line lines rest left before after (Ok taken.NoSession) answered e takes gives =
+    turn_at app k s lines rest left before after answered (answer.NoSession k) gives.1 (ends_with app k s lines before after (no_session k) gives.0 (line_refused app k s line (no_session k) lines rest before e takes))
+taken_turn app k s line lines rest left before after (Err x) answered e takes gives = turn_at app k s lines rest left before after answered answer.Memory gives.1 (stops_here app k s lines before after gives.0)

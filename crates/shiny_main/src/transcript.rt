@@ -1,8 +1,8 @@
-ghost use Rattle.std.specs.Prelude.{◌≡◌, ◌≤◌, Option, IfOk, codes};
+ghost use Rattle.std.specs.Prelude.{◌≡◌, ◌≤◌, [], Option, None, IfOk, codes};
 ghost use Rattle.app_tree.specs.View.{shape_of};
 ghost use Rattle.session_model.specs.Transcript.{Open, over_text};
 ghost use Rattle.shiny_main.specs.Lines.{remaining};
-ghost use Rattle.shiny_main.specs.Replaying.{HoldsSession, PutsAnswer, PutsOver, ClosesOpen, Closes, AnswersTaken, TurnGives, WriteFaults, TurnReadFaults, TurnWriteFaults};
+ghost use Rattle.shiny_main.specs.Replaying.{HoldsSession, ReplayGives, ReadFaults, PutsAnswer, PutsOver, ClosesOpen, Closes, AnswersTaken, TurnGives, WriteFaults, TurnReadFaults, TurnWriteFaults};
 
 use crate::lines::{Lines, NextLine};
 use crate::replay::{Taken, take_line};
@@ -132,5 +132,32 @@ fn answer_taken<K: Sink>(taken: Result<Taken, Memory>, number: u64, out: &mut K)
         Ok(Taken::Bad) => Turn::Ends(Replayed::BadLine(number)),
         Ok(Taken::NoSession) => Turn::Ends(Replayed::NoSession(number)),
         Err(Memory) => Turn::Ends(Replayed::Memory),
+    }
+}
+
+/// Replays a transcript: its lines in order, up to its end or the first that is refused.
+pub fn replay<S: Source, K: Sink>(
+    alloc: Global,
+    app: &Arc<App>,
+    input: &mut S,
+    out: &mut K,
+) -> Replayed
+    ensures gives { ReplayGives (shape_of app.now.value) 1 None (remaining [] (S.left input.old)) (S.left input.new) (K.held out.old) (K.held out.new) result }
+    ensures read_later { S.faults input.old ≤ S.faults input.new }
+    ensures write_later { K.faults out.old ≤ K.faults out.new }
+    ensures read { ReadFaults (S.faults input.old) (S.faults input.new) result }
+    ensures write { WriteFaults (K.faults out.old) (K.faults out.new) result }
+{
+    let mut lines = Lines::new(alloc);
+    let mut session = None;
+    let mut number = 1;
+    'lines: loop {
+        match take_turn(alloc, app, &mut lines, session, number, input, out) {
+            Turn::Goes(next) => {
+                session = Some(next);
+                number += 1;
+            }
+            Turn::Ends(end) => return end,
+        }
     }
 }

@@ -1,0 +1,2 @@
+input n = 1;
+text o { input$n }

@@ -1,0 +1,203 @@
+use crate::status::Status;
+use crate::top::run_text;
+use rx_ports::{MemFiles, MemSink, MemSource, RxBytes};
+use rx_value::Memory;
+use std::alloc::{AllocError, Global};
+use std::test::Fail;
+
+const COUNTER: &str = "input n = 1;\ntext o { input$n }\n";
+
+const INIT: &str =
+    "s recv {\"method\":\"init\",\"data\":{\"n\":1,\".clientdata_output_o_hidden\":false}}\n";
+
+const UPDATE: &str = "s recv {\"method\":\"update\",\"data\":{\"n\":2}}\n";
+
+const EQUAL: &str = "s recv {\"method\":\"update\",\"data\":{\"n\":1}}\n";
+
+const CONFIG: &str = "s send {\"config\":{\"sessionId\":\"s\",\"user\":null,\"workerId\":\"\"}}\n";
+
+const RUN: &str =
+    "s send {\"busy\":\"busy\"}\ns send {\"progress\":{\"message\":{\"id\":\"o\"},\"type\":\"binding\"}}\ns send {\"recalculating\":{\"name\":\"o\",\"status\":\"recalculating\"}}\ns send {\"recalculating\":{\"name\":\"o\",\"status\":\"recalculated\"}}\n";
+
+const ONE: &str =
+    "s send {\"errors\":{},\"inputMessages\":[],\"values\":{\"o\":\"1\"}}\ns send {\"busy\":\"idle\"}\n";
+
+const TWO: &str =
+    "s send {\"errors\":{},\"inputMessages\":[],\"values\":{\"o\":\"2\"}}\ns send {\"busy\":\"idle\"}\n";
+
+const NOTHING: &str =
+    "s send {\"busy\":\"busy\"}\ns send {\"errors\":{},\"inputMessages\":[],\"values\":{}}\ns send {\"busy\":\"idle\"}\n";
+
+const OVER: &str = "s over ended\n";
+
+/// What the program ended with, and what it wrote.
+#[derive(Drop)]
+struct Ran {
+    status: Status,
+    output: RxBytes,
+}
+
+/// The numbers of the calls that fail.
+#[derive(Drop)]
+struct Failing<'a> {
+    reads: &'a [u64],
+    takes: &'a [u64],
+    puts: &'a [u64],
+}
+
+const NONE_FAILS: Failing<'static> = Failing {
+    reads: &[],
+    takes: &[],
+    puts: &[],
+};
+
+fn joined(alloc: Global, parts: &[&str]) -> Result<RxBytes, Memory> {
+    let mut bytes = RxBytes::new(alloc);
+    for part in parts {
+        bytes.extend(part.as_bytes())?;
+    }
+    Ok(bytes)
+}
+
+fn two_words(alloc: Global, command: &str, file: &str) -> Result<Vec<String>, AllocError> {
+    let mut words = Vec::new(alloc);
+    words.push(String::from_str(alloc, command)?)?;
+    words.push(String::from_str(alloc, file)?)?;
+    Ok(words)
+}
+
+/// Runs these words over one file `f`.
+fn run_on(
+    alloc: Global,
+    words: &[String],
+    app: &str,
+    transcript: &[&str],
+    failing: &Failing<'_>,
+) -> Result<Ran, Memory> {
+    let mut files = MemFiles::new(alloc);
+    files.add(alloc, "f", app.as_bytes())?;
+    files.fail_read(alloc, failing.reads)?;
+    let mut input = MemSource::new(joined(alloc, transcript)?);
+    input.fail_take(alloc, failing.takes)?;
+    let mut out = MemSink::new(alloc, 100_000)?;
+    out.fail_put(alloc, failing.puts)?;
+    let mut note = MemSink::new(alloc, 0)?;
+    let status = run_text(alloc, words, &mut files, &mut input, &mut out, &mut note);
+    let output = RxBytes::from_slice(alloc, out.bytes())?;
+    Ok(Ran { status, output })
+}
+
+fn replays(
+    alloc: Global,
+    app: &str,
+    transcript: &[&str],
+    failing: &Failing<'_>,
+) -> Result<Ran, Memory> {
+    let words = two_words(alloc, "replay", "f")?;
+    run_on(alloc, words.as_slice(), app, transcript, failing)
+}
+
+/// The worked examples: with ample memory each ends with status 0 and these bytes.
+#[test]
+fn transcripts_are_answered(rt: HostRuntime) -> Result<(), Fail> {
+    let alloc = rt.alloc();
+    let empty_init = "s recv {\"method\":\"init\",\"data\":{}}\n";
+    let cases: [(&str, &[&str], &[&str]); 6] = [
+        (
+            COUNTER,
+            &[INIT, UPDATE],
+            &[CONFIG, RUN, ONE, RUN, TWO, OVER],
+        ),
+        ("", &[], &[]),
+        ("", &[empty_init], &[CONFIG, NOTHING, OVER]),
+        (COUNTER, &[INIT, EQUAL], &[CONFIG, RUN, ONE, OVER]),
+        (COUNTER, &[empty_init, UPDATE], &[CONFIG, NOTHING, OVER]),
+        (COUNTER, &[INIT.trim_end()], &[CONFIG, RUN, ONE, OVER]),
+    ];
+    for (app, transcript, output) in cases {
+        let ran = replays(alloc, app, transcript, &NONE_FAILS)?;
+        assert_eq!(rt; ran.status, Status::Done, "{app:?} {transcript:?}");
+        let output = joined(alloc, output)?;
+        assert_eq!(rt;
+            ran.output.as_slice(),
+            output.as_slice(),
+            "{app:?} {transcript:?}"
+        );
+    }
+    Ok(())
+}
+
+/// A refused line ends the replay with status 6, and what was written before it stays.
+#[test]
+fn refused_lines_end_the_replay(rt: HostRuntime) -> Result<(), Fail> {
+    let alloc = rt.alloc();
+    let second_lines = [
+        "\n",
+        "s\n",
+        "s recv\n",
+        "s recv {}\n",
+        "t recv {\"method\":\"update\",\"data\":{\"n\":2}}\n",
+        "s-1 recv {\"method\":\"update\",\"data\":{\"n\":2}}\n",
+        "s send {\"method\":\"update\",\"data\":{\"n\":2}}\n",
+        "s recv {\"method\":\"init\",\"data\":{\"n\":2}}\n",
+        "s recv {\"method\":\"update\",\"data\":{\"m\":2}}\n",
+        "s recv {\"method\":\"update\",\"data\":{\"n\":2.5}}\n",
+        "s recv {\"method\":\"update\",\"data\":{\"n\":\"2\"}}\n",
+        "s recv {\"method\":\"update\",\"data\":{\"n\":9223372036854775808}}\n",
+        "s recv {\"method\":\"update\",\"data\":{\"n:shiny.number\":2}}\n",
+        "s recv {\"method\":\"update\",\"data\":{},\"more\":1}\n",
+        "s recv {\"method\":\"update\",\"data\":{\".clientdata_output_o_hidden\":true}}\n",
+        "s recv {\"method\":\"update\",\"data\":{\"n\":2}",
+    ];
+    for line in second_lines {
+        let ran = replays(alloc, COUNTER, &[INIT, line, UPDATE], &NONE_FAILS)?;
+        assert_eq!(rt; ran.status, Status::LineRefused, "{line:?}");
+        let output = joined(alloc, &[CONFIG, RUN, ONE])?;
+        assert_eq!(rt; ran.output.as_slice(), output.as_slice(), "{line:?}");
+    }
+    Ok(())
+}
+
+/// The other statuses, each at its place, with nothing written.
+#[test]
+fn statuses_have_their_causes(rt: HostRuntime) -> Result<(), Fail> {
+    let alloc = rt.alloc();
+    let cases = [
+        ("replay", "f", COUNTER, Status::Done, 0),
+        ("replay", "nofile", COUNTER, Status::FileAbsent, 4),
+        ("check", "f", COUNTER, Status::WrongWords, 2),
+        ("replay", "f", "input n = 1", Status::AppRefused, 3),
+        ("replay", "f", "text o { input$n }", Status::AppRefused, 3),
+    ];
+    for (command, file, app, status, number) in cases {
+        let words = two_words(alloc, command, file)?;
+        let ran = run_on(alloc, words.as_slice(), app, &[], &NONE_FAILS)?;
+        assert_eq!(rt; ran.status, status, "{command} {file} {app:?}");
+        assert_eq!(rt; ran.status.number(), number);
+        assert_eq!(rt; ran.output.len(), 0, "{command} {file} {app:?}");
+    }
+    Ok(())
+}
+
+/// Each read, take and put of a run is made to fail in turn: the status says so, and what was
+/// written is a front of the whole output.
+#[test]
+fn faults_leave_a_front_of_the_output(rt: HostRuntime) -> Result<(), Fail> {
+    let alloc = rt.alloc();
+    let whole = joined(alloc, &[CONFIG, RUN, ONE, RUN, TWO, OVER])?;
+    let cases: [(&[u64], &[u64], &[u64], Status); 6] = [
+        (&[1], &[], &[], Status::FileFault),
+        (&[], &[1], &[], Status::ReadFault),
+        (&[], &[2], &[], Status::ReadFault),
+        (&[], &[], &[1], Status::WriteFault),
+        (&[], &[], &[2], Status::WriteFault),
+        (&[], &[], &[3], Status::WriteFault),
+    ];
+    for (reads, takes, puts, status) in cases {
+        let failing = Failing { reads, takes, puts };
+        let ran = replays(alloc, COUNTER, &[INIT, UPDATE], &failing)?;
+        assert_eq!(rt; ran.status, status, "{reads:?} {takes:?} {puts:?}");
+        assert!(rt; whole.as_slice().starts_with(ran.output.as_slice()));
+    }
+    Ok(())
+}
