@@ -16,6 +16,8 @@ mod names;
 mod running;
 mod stage;
 mod start;
+#[cfg(test)]
+mod tests;
 mod texts;
 mod waiting;
 

@@ -10,6 +10,8 @@ mod memory;
 mod outcome;
 mod shown;
 mod source;
+#[cfg(test)]
+mod tests;
 mod text;
 mod value;
 
