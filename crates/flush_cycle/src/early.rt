@@ -61,10 +61,10 @@ fn are_early_pairs(app: &App, first: bool, pairs: &Map<String, Json>) -> bool
     true
 }
 
-fn has_early_data(app: &App, first: bool, data: Option<&Map<String, Json>>) -> bool
-    ensures { result ≡ has_early_data (shape_of app.now) first (option_map (λ m. members_view m.now.entries) data.entry) }
+fn has_early_data(app: &App, first: bool, pairs: Option<&Map<String, Json>>) -> bool
+    ensures { result ≡ has_early_data (shape_of app.now) first (option_map (λ m. members_view m.now.entries) pairs.entry) }
 {
-    match data {
+    match pairs {
         Some(pairs) => are_early_pairs(app, first, pairs),
         None => false,
     }
