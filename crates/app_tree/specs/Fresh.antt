@@ -6,7 +6,7 @@ use Rattle.rx_value.specs.declared.outcome.Outcome.{Outcome}
 use Rattle.rx_value.specs.declared.outcome.Outcome.TheVariants.{Stop}
 use Rattle.app_tree.specs.declared.term.Read.{Read}
 use Rattle.app_tree.specs.declared.term.Read.TheVariants as read
-use Rattle.app_tree.specs.Tree.{Tree, Node, input, text, Shape}
+use Rattle.app_tree.specs.Tree.{Node, input, text, Shape}
 use Rattle.app_tree.specs.Numbering.{reader}
 use Rattle.app_tree.specs.Current.{CurrentValues, told}
 use Rattle.app_tree.specs.Evaluate.{Answers, Asked, reads, Evaluation, evaluate}

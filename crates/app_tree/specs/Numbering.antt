@@ -1,7 +1,6 @@
 -- How an app's sources and readers are numbered: each from 0, the inputs first among the sources,
 -- everything in the order of the text.
 use Rattle.std.specs.Prelude.{ℕ, suc, Bool, true, false, List, [], ◌∷◌, filter, Option, Some, None, slice_get, bytes_eq, if◌then◌else◌}
-use Rattle.rx_value.specs.declared.value.Value.{Value}
 use Rattle.rx_value.specs.declared.source.SourceValue.{SourceValue}
 use Rattle.rx_value.specs.declared.source.SourceValue.TheVariants.{Plain}
 use Rattle.app_tree.specs.Tree.{Node, input, text, Shape}

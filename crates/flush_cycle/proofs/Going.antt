@@ -1,5 +1,5 @@
 -- A flush that has come so far: what it has left to do gives what the whole flush gives.
-use Rattle.std.proofs.Common.{◌≡◌, ℕ, zero, suc, ◌+◌, ◌-◌, ◌<◌, ◌≤◌, Bool, true, false, List, [], ◌∷◌, ◌++◌, length, take, drop, filter, map, Option, Some, None, refl, sym, ap, ◌∙◌, subst, arith, zero-add}
+use Rattle.std.proofs.Common.{◌≡◌, ℕ, zero, suc, ◌-◌, ◌<◌, true, false, List, [], ◌∷◌, ◌++◌, length, take, drop, filter, Option, Some, None, refl, sym, ap, ◌∙◌, subst, arith, zero-add}
 use Rattle.std.specs.Prelude.{slice_get, slice_set, unwrap_or}
 use Rattle.std.proofs.lemmas.List.{length-set, take-set}
 use Rattle.std.proofs.lemmas.List.Elements.{filter-append}
@@ -17,10 +17,10 @@ use Rattle.shiny_json.specs.declared.batch.BatchOutput.{BatchOutput}
 use Rattle.session_model.specs.declared.state.ReaderState.{ReaderState}
 use Rattle.session_model.specs.State.{SessionState, first_reader, isolated_of}
 use Rattle.session_model.specs.Run.{run_reader, forgotten}
-use Rattle.session_model.specs.Flush.{Run, FlushEnd, done, budget_spent, Flushed, flush_from, flush, flush_step, flush_end, waiting_from, next_waiting, with_last, run_of}
+use Rattle.session_model.specs.Flush.{Run, FlushEnd, done, budget_spent, flush_from, flush, flush_step, flush_end, waiting_from, next_waiting, with_last, run_of}
 use Rattle.session_model.specs.Texts.{name_at, batch_output, batch_outputs}
 use Rattle.flush_cycle.specs.State.{state_of}
-use Rattle.flush_cycle.specs.Passed.{IsPassed, WaitsAt, waits_at, Passed, passed_of, ran_reader, shown_output, body_outcome, plain_answers}
+use Rattle.flush_cycle.specs.Passed.{IsPassed, WaitsAt, waits_at, passed_of, ran_reader, shown_output, body_outcome, plain_answers}
 use Rattle.flush_cycle.proofs.Passing.{split_at, waiting-found, none_before}
 
 pub record Going (app : Shape) (values : List SourceValue) (start readers : List ReaderState) (left : ℕ) (outputs : List BatchOutput) (place number : ℕ) : Type 0 where

@@ -1,5 +1,5 @@
 -- Going on over the items: what is known of the readers before a place.
-use Rattle.std.proofs.Common.{◌≡◌, ℕ, zero, suc, ◌+◌, ◌<◌, ◌≤◌, Bool, true, false, not, ◌&&◌, List, [], ◌∷◌, ◌++◌, length, take, drop, filter, map, Option, Some, None, refl, sym, ap, ◌∙◌, subst, arith, cond, add-one, add-zero, append-nil, length-append, get_or}
+use Rattle.std.proofs.Common.{◌≡◌, ℕ, zero, suc, ◌+◌, ◌<◌, ◌≤◌, Bool, true, false, List, [], ◌∷◌, ◌++◌, length, take, drop, filter, map, Option, Some, None, refl, sym, ap, ◌∙◌, arith, add-one, add-zero, append-nil, length-append, get_or}
 use Rattle.std.specs.Prelude.{slice_get, if◌then◌else◌}
 use Rattle.std.proofs.lemmas.List.Elements.{filter-append}
 use Rattle.app_tree.specs.Tree.{Node, input, text, Tree}
@@ -8,9 +8,8 @@ use Rattle.app_tree.specs.declared.item.Item.{Item}
 use Rattle.app_tree.specs.View.{node_of}
 use Rattle.app_tree.specs.Numbering.{is_reader}
 use Rattle.session_model.specs.declared.state.ReaderState.{ReaderState}
-use Rattle.session_model.specs.State.{is_alive}
 use Rattle.session_model.specs.Flush.{is_waiting, waiting_from}
-use Rattle.flush_cycle.specs.Passed.{waits, waits_at, IsPassed}
+use Rattle.flush_cycle.specs.Passed.{waits_at, IsPassed}
 
 -- ---- lists
 

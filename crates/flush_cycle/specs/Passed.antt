@@ -1,5 +1,5 @@
 -- What one run makes of a reader, and what a flush has come to, in the Flusher's own lists.
-use Rattle.std.specs.Prelude.{◌≡◌, ℕ, ◌≤◌, Bool, true, false, not, ◌&&◌, List, [], ◌∷◌, filter, take, length, Option, Some, None, slice_get, if◌then◌else◌}
+use Rattle.std.specs.Prelude.{◌≡◌, ℕ, ◌≤◌, Bool, true, false, not, ◌&&◌, List, [], filter, take, length, Option, Some, None, slice_get, if◌then◌else◌}
 use Rattle.rx_value.specs.declared.outcome.Outcome.{Outcome}
 use Rattle.rx_value.specs.declared.source.SourceValue.{SourceValue}
 use Rattle.app_tree.specs.declared.term.Term.{Term}

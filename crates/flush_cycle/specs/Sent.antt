@@ -1,11 +1,11 @@
 -- The texts of a flush, by the outputs that ran and whether the budget was spent.
-use Rattle.std.specs.Prelude.{◌≡◌, ℕ, Bool, true, false, List, [], ◌∷◌, ◌++◌, if◌then◌else◌}
+use Rattle.std.specs.Prelude.{◌≡◌, ℕ, Bool, true, false, List, [], ◌∷◌, ◌++◌}
 use Rattle.shiny_json.specs.declared.batch.BatchOutput.{BatchOutput}
 use Rattle.shiny_json.specs.declared.batch.Batch.{Batch}
 use Rattle.shiny_json.specs.Server.{config_text, busy_text}
 use Rattle.shiny_json.specs.Values.{values_text}
 use Rattle.session_model.specs.State.{SessionState}
-use Rattle.session_model.specs.Flush.{FlushEnd, done, budget_spent, Flushed as FlushResult}
+use Rattle.session_model.specs.Flush.{Flushed as FlushResult}
 use Rattle.session_model.specs.Texts.{output_texts}
 use Rattle.flush_cycle.specs.Passed.{end_of}
 use Rattle.flush_cycle.specs.declared.texts.Sent.{Sent}

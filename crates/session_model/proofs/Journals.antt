@@ -1,5 +1,5 @@
 -- A longer journal goes on where the shorter one has come to.
-use Rattle.std.proofs.Common.{◌≡◌, ℕ, suc, List, [], ◌∷◌, ◌++◌, length, drop, refl, sym, ap, ◌∙◌, append_assoc, append-nil}
+use Rattle.std.proofs.Common.{◌≡◌, ℕ, List, [], ◌∷◌, ◌++◌, length, drop, refl, sym, ap, ◌∙◌, append_assoc, append-nil}
 use Rattle.app_tree.specs.Tree.{Shape}
 use Rattle.session_model.specs.declared.event.Event.{Event}
 use Rattle.session_model.specs.Alone.{Course, first_course, after_event, texts_of_event, course_from, answers_from, answers, course_of}

@@ -1,5 +1,5 @@
 -- A session run alone: its events one after the other, what each sends, and how the session ends.
-use Rattle.std.specs.Prelude.{ℕ, suc, ◌+◌, Bool, true, false, List, [], ◌∷◌, ◌++◌, Option, Some, None}
+use Rattle.std.specs.Prelude.{ℕ, suc, Bool, true, false, List, [], ◌∷◌, ◌++◌, Option, Some, None}
 use Rattle.shiny_json.specs.declared.message.Pair.{Pair}
 use Rattle.shiny_json.specs.declared.message.Client.{Client}
 use Rattle.shiny_json.specs.declared.message.Client.TheVariants.{Init, Update, Refused}

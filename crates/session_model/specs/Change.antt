@@ -1,5 +1,5 @@
 -- A change of a source: setting it to the value that it has does nothing.
-use Rattle.std.specs.Prelude.{ℕ, Bool, true, false, ◌==◌, List, map, Option, Some, None, slice_set, if◌then◌else◌}
+use Rattle.std.specs.Prelude.{ℕ, Bool, true, ◌==◌, List, map, Option, Some, None, slice_set, if◌then◌else◌}
 use Rattle.std.specs.List.{list_any}
 use Rattle.rx_value.specs.declared.source.SourceValue.{SourceValue}
 use Rattle.rx_value.specs.Value.{source_eq}

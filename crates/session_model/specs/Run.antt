@@ -1,5 +1,5 @@
 -- One run of a reader.
-use Rattle.std.specs.Prelude.{ℕ, false, List, [], Option, Some, None, slice_set}
+use Rattle.std.specs.Prelude.{ℕ, false, List, [], Some, slice_set}
 use Rattle.rx_value.specs.declared.outcome.Outcome.{Outcome}
 use Rattle.app_tree.specs.Tree.{Shape}
 use Rattle.app_tree.specs.Fresh.{fresh_outcome, sources_read}

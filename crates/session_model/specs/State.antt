@@ -1,11 +1,10 @@
 -- The state of a session.
-use Rattle.std.specs.Prelude.{ℕ, Bool, true, false, not, List, [], ◌∷◌, map, Option, Some, None, is_some, slice_get, option_map, unwrap_or}
+use Rattle.std.specs.Prelude.{ℕ, Bool, false, not, List, [], ◌∷◌, map, Option, None, is_some, slice_get, option_map, unwrap_or}
 use Rattle.rx_value.specs.declared.value.Value.{Value}
 use Rattle.app_tree.specs.Tree.{Node, Shape}
 use Rattle.app_tree.specs.Numbering.{readers, starting_values}
 use Rattle.app_tree.specs.Current.{CurrentValues}
 use Rattle.app_tree.specs.Fresh.{IsolatedOutcomes}
-use Rattle.session_model.specs.declared.state.Dependencies.{Dependencies}
 use Rattle.session_model.specs.declared.state.ReaderState.{ReaderState}
 
 -- a started invocation of a task

@@ -1,5 +1,5 @@
 -- The texts that a flush sends.
-use Rattle.std.specs.Prelude.{ℕ, Bool, true, false, List, [], ◌∷◌, ◌++◌, Option, Some, None}
+use Rattle.std.specs.Prelude.{ℕ, true, false, List, [], ◌∷◌, ◌++◌, Option, Some, None}
 use Rattle.app_tree.specs.Tree.{Node, Shape}
 use Rattle.app_tree.specs.Numbering.{reader, name_of}
 use Rattle.shiny_json.specs.declared.batch.BatchOutput.{BatchOutput}

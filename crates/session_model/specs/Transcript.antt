@@ -1,5 +1,5 @@
 -- A transcript of client messages, and the output that its replay writes.
-use Rattle.std.specs.Prelude.{◌≡◌, ⊤, ℕ, suc, ◌==◌, Bool, true, false, not, ◌&&◌, ◌||◌, nat_le, nat_lt, List, [], ◌∷◌, ◌++◌, length, drop, Option, Some, None, codes, bytes_eq, decimal, if◌then◌else◌}
+use Rattle.std.specs.Prelude.{◌≡◌, ⊤, ℕ, suc, ◌==◌, Bool, true, false, ◌&&◌, ◌||◌, nat_le, nat_lt, List, [], ◌∷◌, ◌++◌, length, drop, Option, Some, None, codes, bytes_eq, decimal, if◌then◌else◌}
 use Rattle.std.specs.List.{before_first, after_first, list_all, position_or_len}
 use Rattle.std.specs.Str.{is_utf8}
 use Rattle.std.specs.Char.{is_ascii_alphanumeric}
@@ -8,7 +8,7 @@ use Rattle.shiny_json.specs.declared.message.BadMessage.{BadMessage}
 use Rattle.shiny_json.specs.declared.message.BadMessage.TheVariants as bad
 use Rattle.app_tree.specs.Tree.{Shape}
 use Rattle.session_model.specs.declared.event.Event.{Event}
-use Rattle.session_model.specs.declared.event.Event.TheVariants.{Text, Other, TaskEnd, End}
+use Rattle.session_model.specs.declared.event.Event.TheVariants.{Text, End}
 use Rattle.session_model.specs.Alone.{Ending, ended, refused, spent, answers, ending}
 use Rattle.session_model.specs.Early.{early_pairs}
 

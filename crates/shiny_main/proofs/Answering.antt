@@ -1,25 +1,20 @@
 -- One client message of a session, from the Flusher's answer to the definition's event.
-use Rattle.std.proofs.Common.{◌≡◌, ℕ, suc, Bool, true, false, List, [], ◌∷◌, ◌++◌, Option, Some, None, refl, sym, ap, ◌∙◌, subst, append-nil}
-use Rattle.std.specs.Prelude.{codes}
+use Rattle.std.proofs.Common.{◌≡◌, ℕ, suc, Bool, true, false, List, ◌++◌, None, sym, ap, ◌∙◌, subst}
 use Rattle.app_tree.specs.Tree.{Shape}
 use Rattle.app_tree.specs.View.{shape_of}
 use Rattle.shiny_json.specs.declared.message.Pair.{Pair}
 use Rattle.shiny_json.specs.declared.message.Client.TheVariants.{Update}
 use Rattle.shiny_json.specs.Client.{client_message}
-use Rattle.session_model.specs.declared.event.Event.{Event}
 use Rattle.session_model.specs.declared.event.Event.TheVariants.{Text}
-use Rattle.session_model.specs.State.{SessionState}
-use Rattle.session_model.specs.Flush.{FlushEnd, done, budget_spent, Flushed as FlushResult}
-use Rattle.session_model.specs.Texts.{first_texts, later_texts}
-use Rattle.session_model.specs.Alone.{Course, first_course, Effect, flushes, effect, effect_texts, effect_from, message_effect, course_after, flush_ending, applied, course_of, ending}
+use Rattle.session_model.specs.Flush.{Flushed as FlushResult}
+use Rattle.session_model.specs.Alone.{Course, flushes, effect, effect_texts, effect_from, message_effect, course_after, flush_ending, applied, course_of, ending}
 use Rattle.session_model.specs.Transcript.{Open, with_event, event_output, send_lines, over_line, added_texts}
 use Rattle.session_model.proofs.Journals.{course_of-more, added_texts-more}
-use Rattle.flush_cycle.specs.declared.flushed.Flushed.{Flushed}
 use Rattle.flush_cycle.specs.declared.stage.Stage.TheVariants as stage
 use Rattle.flush_cycle.specs.Flushing.{FlushGives, flushed_by, stage_after}
 use Rattle.shiny_main.specs.declared.session.OpenSession.{OpenSession}
 use Rattle.shiny_main.specs.declared.session.Answered.{Answered}
-use Rattle.shiny_main.specs.Replaying.{EndsSo, HoldsOpen, budget_line, event_lines, AnswersText, AnswersFirst, AnswersLater}
+use Rattle.shiny_main.specs.Replaying.{EndsSo, HoldsOpen, budget_line, event_lines, AnswersText}
 
 -- the course after a text that flushes
 abbrev flushed_course : Course → Bool → FlushResult → Course

@@ -1,15 +1,14 @@
 -- A replay that has come so far.
-use Rattle.std.proofs.Common.{◌≡◌, ℕ, suc, ◌+◌, ◌≤◌, List, [], ◌++◌, Option, Some, None, IfSome, refl, sym, ap, ◌∙◌, subst, arith, append_assoc, add-one}
+use Rattle.std.proofs.Common.{◌≡◌, ℕ, suc, ◌+◌, ◌≤◌, List, [], ◌++◌, Option, Some, None, IfSome, refl, sym, ap, ◌∙◌, arith, append_assoc, add-one}
 use Rattle.std.specs.Option.{option_map}
-use Rattle.std.specs.Io.KnownBytes.{append_known, IsAtEnd}
-use Rattle.rx_ports.specs.Faults.{Rose}
-use Rattle.rx_ports.proofs.Contents.{append_known-append, Rose-earlier}
+use Rattle.std.specs.Io.KnownBytes.{append_known}
+use Rattle.rx_ports.proofs.Contents.{append_known-append}
 use Rattle.app_tree.specs.Tree.{Shape}
-use Rattle.session_model.specs.Transcript.{Open, ReplayEnd, done, bad_line, no_session, Replayed, after_output, replay_from, line_count_limit}
+use Rattle.session_model.specs.Transcript.{Open, ReplayEnd, done, bad_line, no_session, Replayed, after_output, replay_from}
 use Rattle.shiny_main.specs.declared.session.OpenSession.{OpenSession}
 use Rattle.shiny_main.specs.declared.transcript.Replayed.{Replayed as ReplayAnswer}
 use Rattle.shiny_main.specs.declared.transcript.Replayed.TheVariants as answer
-use Rattle.shiny_main.specs.Replaying.{HoldsSession, Ends, Stops, Went, ReplayGives, ReadFaults, WriteFaults}
+use Rattle.shiny_main.specs.Replaying.{HoldsSession, Ends, Stops, Went, ReplayGives}
 use Rattle.shiny_main.proofs.Turns.{nothing_put}
 
 pub record Replaying (app : Shape) (code : Option OpenSession) (k : ℕ) (lines rest : Option (List (List ℕ))) (before held : Option (List ℕ)) (read_before read wrote_before wrote : ℕ) : Type 0 where

@@ -7,7 +7,7 @@ use Rattle.shiny_json.specs.declared.message.Pair.{Pair}
 use Rattle.session_model.specs.declared.event.Event.TheVariants.{Text}
 use Rattle.session_model.specs.Alone.{Ending, spent, ending, course_of}
 use Rattle.session_model.specs.Early.{early_pairs}
-use Rattle.session_model.specs.Transcript.{Open, with_event, event_output, recv, Replayed, stopped, bad_line, after_output, received, if_early, is_taken, replay_line, line_count_limit}
+use Rattle.session_model.specs.Transcript.{Open, with_event, event_output, recv, Replayed, stopped, bad_line, after_output, received, if_early, is_taken, line_count_limit}
 use Rattle.session_model.proofs.EarlyMessages.{early_init, early_update}
 use Rattle.flush_cycle.specs.declared.stage.Stage.{Stage}
 use Rattle.flush_cycle.specs.declared.stage.Stage.TheVariants as stage

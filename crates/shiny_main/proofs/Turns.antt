@@ -1,16 +1,14 @@
 -- One line of a replay, and its end, from the code's answers to the definition's replay.
-use Rattle.std.proofs.Common.{◌≡◌, ℕ, suc, ◌+◌, ◌<◌, ◌≤◌, Bool, true, false, ◌&&◌, List, [], ◌∷◌, ◌++◌, length, take, drop, Option, Some, None, IfSome, Result, Ok, Err, IfOk, refl, sym, ap, ◌∙◌, subst, arith, append_assoc, append-nil, take-append-drop}
+use Rattle.std.proofs.Common.{◌≡◌, ℕ, suc, ◌<◌, false, ◌&&◌, List, [], ◌∷◌, ◌++◌, length, take, drop, Option, Some, None, IfSome, Result, Ok, Err, IfOk, refl, sym, ap, ◌∙◌, subst, arith, append_assoc, append-nil, take-append-drop}
 use Rattle.std.specs.Prelude.{nat_le, codes, if◌then◌else◌}
 use Rattle.std.proofs.lemmas.Bool.Decides.{nat_tests}
 use Rattle.std.specs.Option.{option_map}
 use Rattle.std.specs.Str.{is_utf8}
 use Rattle.std.specs.Io.KnownBytes.{append_known, IsAtEnd}
-use Rattle.rx_ports.specs.Sink.{PutsFront}
-use Rattle.rx_ports.proofs.Contents.{append_known-append}
 use Rattle.app_tree.specs.Tree.{Shape}
-use Rattle.session_model.specs.declared.event.Event.TheVariants.{Text, End}
-use Rattle.session_model.specs.Alone.{Course, Ending, ended, spent, Effect, ends, effect_from, effect_texts, course_after, ending, course_of}
-use Rattle.session_model.specs.Transcript.{Open, with_event, event_output, send_lines, over_text, over_line, added_texts, Line, line_limit, line_of, parts_of, ReplayEnd, done, bad_line, no_session, Replayed, stopped, after_output, closing_output, closed, replay_line, replay_from, line_count_limit}
+use Rattle.session_model.specs.declared.event.Event.TheVariants.{End}
+use Rattle.session_model.specs.Alone.{Course, ended, spent, effect_from, effect_texts, course_after, ending, course_of}
+use Rattle.session_model.specs.Transcript.{Open, with_event, event_output, send_lines, over_text, over_line, added_texts, line_limit, line_of, parts_of, ReplayEnd, done, bad_line, no_session, Replayed, stopped, after_output, closing_output, closed, replay_line, replay_from}
 use Rattle.session_model.proofs.Journals.{course_of-more, added_texts-more}
 use Rattle.flush_cycle.specs.declared.stage.Stage.{Stage}
 use Rattle.flush_cycle.specs.declared.stage.Stage.TheVariants as stage
@@ -24,7 +22,7 @@ use Rattle.shiny_main.specs.declared.transcript.Replayed.TheVariants as answer
 use Rattle.shiny_main.specs.declared.transcript.Turn.{Turn}
 use Rattle.shiny_main.specs.declared.transcript.Turn.TheVariants as turn
 use Rattle.shiny_main.specs.Lines.{BeginsTooLong}
-use Rattle.shiny_main.specs.Replaying.{EndsSo, HoldsOpen, HoldsSession, GoesOn, TakesRecv, PutsAnswer, PutsOver, ClosesAt, ClosesOpen, Closes, Ends, Stops, Went, ReplayGives, TurnGives, AnswersTaken}
+use Rattle.shiny_main.specs.Replaying.{EndsSo, HoldsOpen, HoldsSession, GoesOn, TakesRecv, PutsAnswer, PutsOver, ClosesAt, Closes, Ends, Stops, ReplayGives, TurnGives, AnswersTaken}
 
 pub nothing_put : (held : Option (List ℕ)) → held ≡ append_known held []
 nothing_put None = refl

@@ -1,5 +1,5 @@
 -- The app files that `replay` takes today: inputs that start at a whole number, and outputs that show one input each.
-use Rattle.std.specs.Prelude.{ℕ, zero, suc, Bool, true, false, not, ◌&&◌, nat_le, pos, List, [], ◌∷◌, length, Option, Some, None, Result, Ok, Err, bytes_eq, if◌then◌else◌}
+use Rattle.std.specs.Prelude.{ℕ, zero, suc, Bool, true, not, ◌&&◌, nat_le, pos, List, [], ◌∷◌, length, Option, Some, None, Result, Ok, Err, bytes_eq, if◌then◌else◌}
 use Rattle.std.specs.List.{list_any}
 use Rattle.rx_value.specs.declared.value.Value.TheVariants.{Int}
 use Rattle.app_tree.specs.declared.term.Read.TheVariants.{Input}
@@ -7,9 +7,7 @@ use Rattle.app_tree.specs.Tree.{Node, get, input, text, Shape}
 use Rattle.app_tokens.specs.declared.token.Token.{Token}
 use Rattle.app_tokens.specs.declared.token.Kind.{Kind}
 use Rattle.app_tokens.specs.declared.token.Kind.TheVariants as kind
-use Rattle.app_tokens.specs.declared.word.Word.{Word}
 use Rattle.app_tokens.specs.declared.word.Word.TheVariants as word
-use Rattle.app_tokens.specs.declared.symbol.Symbol.{Symbol}
 use Rattle.app_tokens.specs.declared.symbol.Symbol.TheVariants as symbol
 use Rattle.app_tokens.specs.declared.error.TokenError.{TokenError}
 use Rattle.app_tokens.specs.Tokens.{Tokens}

@@ -1,5 +1,5 @@
 -- What the parts of a replay answer, in the words of its definition.
-use Rattle.std.specs.Prelude.{◌≡◌, ◌≢◌, ◌≤◌, ℕ, suc, Bool, true, false, List, [], ◌∷◌, ◌++◌, Option, Some, None, Result, Ok, Err, IfSome, ⊤, codes}
+use Rattle.std.specs.Prelude.{◌≡◌, ◌≢◌, ◌≤◌, ℕ, suc, Bool, true, false, List, [], ◌++◌, Option, Some, None, Result, Ok, Err, IfSome, ⊤, codes}
 use Rattle.std.specs.Option.{option_map}
 use Rattle.std.specs.Io.KnownBytes.{append_known, IsAtEnd}
 use Rattle.rx_ports.specs.Faults.{Rose}
@@ -10,7 +10,7 @@ use Rattle.app_tree.specs.View.{shape_of}
 use Rattle.shiny_json.specs.declared.message.Pair.{Pair}
 use Rattle.shiny_json.specs.declared.message.Client.TheVariants.{Init, Update}
 use Rattle.shiny_json.specs.Client.{client_message}
-use Rattle.session_model.specs.declared.event.Event.TheVariants.{Text, End}
+use Rattle.session_model.specs.declared.event.Event.TheVariants.{Text}
 use Rattle.session_model.specs.Alone.{Ending, spent, course_of}
 use Rattle.session_model.specs.Transcript.{send_lines, over_text, Open, with_event, event_output, Line, ReplayEnd, done, bad_line, no_session, Replayed, stopped, after_output, replay_line, replay_from, line_count_limit}
 use Rattle.flush_cycle.specs.declared.stage.Stage.{Stage}

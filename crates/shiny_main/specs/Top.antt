@@ -1,12 +1,12 @@
 -- What the top call promises, by its status.
-use Rattle.std.specs.Prelude.{◌≡◌, ◌≢◌, ℕ, List, [], ◌++◌, String, Option, Some, None, IfSome, ⊤, ◌⊎◌}
+use Rattle.std.specs.Prelude.{◌≡◌, ◌≢◌, ℕ, List, ◌++◌, String, Option, Some, None, IfSome, ⊤, ◌⊎◌}
 use Rattle.std.specs.declared.alloc.Global.{Global}
 use Rattle.std.specs.Io.KnownBytes.{append_known, IsAtEnd}
 use Rattle.rx_ports.specs.Faults.{Rose}
 use Rattle.rx_ports.specs.Files.{content_of}
 use Rattle.rx_ports.specs.declared.files.NamedFile.{NamedFile}
 use Rattle.app_tree.specs.Tree.{Shape}
-use Rattle.session_model.specs.Transcript.{Replayed, ReplayEnd, done, replayed}
+use Rattle.session_model.specs.Transcript.{ReplayEnd, done, replayed}
 use Rattle.shiny_main.specs.declared.status.Status.{Status}
 use Rattle.shiny_main.specs.declared.status.Status.TheVariants as status
 use Rattle.shiny_main.specs.declared.transcript.Replayed.{Replayed as ReplayAnswer}

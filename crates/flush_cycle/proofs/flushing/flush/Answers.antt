@@ -1,4 +1,4 @@
-use Rattle.std.proofs.Common.{◌≡◌, ◌∙◌, ap, map, sym, ◌++◌, ◌∷◌, [], ◌<◌, arith}
+use Rattle.std.proofs.Common.{◌∙◌, ap, map, ◌++◌, ◌∷◌, [], ◌<◌, arith}
 use Rattle.app_tree.specs.View.{node_of, shape_of}
 use Rattle.flush_cycle.proofs.Going.{all_spent, next_is, one_more, waits_within, passed_of_slices, waits_of_slices, going_with}
 use Rattle.flush_cycle.proofs.flushing.flush.Goals as goal

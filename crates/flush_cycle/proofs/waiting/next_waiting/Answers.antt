@@ -1,7 +1,5 @@
-use Rattle.std.proofs.Common.{◌≡◌, ◌+◌, ◌∙◌, sym, ap, subst, map, length, Some, ◌≤◌, arith}
-use Rattle.std.specs.Prelude.{slice_get}
+use Rattle.std.proofs.Common.{◌+◌, ◌∙◌, sym, ap, subst, map, length, Some, ◌≤◌, arith}
 use Rattle.std.proofs.lemmas.List.{length-map}
-use Rattle.app_tree.specs.Tree.{input, text}
 use Rattle.app_tree.specs.View.{node_of, tree_of}
 use Rattle.flush_cycle.specs.Passed.{IsPassed}
 use Rattle.flush_cycle.proofs.Passing.{node_at, passed_all, passed_input, passed_output}

@@ -1,4 +1,4 @@
-use Rattle.std.proofs.Common.{◌≡◌, ◌∙◌, ap, subst, sym, false}
+use Rattle.std.proofs.Common.{◌∙◌, ap, subst, false}
 use Rattle.app_tree.specs.Tree.{Shape}
 use Rattle.app_tree.specs.View.{shape_of}
 use Rattle.flush_cycle.specs.declared.flushed.Flushed.{Flushed}

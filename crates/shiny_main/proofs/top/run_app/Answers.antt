@@ -1,4 +1,4 @@
-use Rattle.std.proofs.Common.{◌≡◌, ◌∙◌, ap, sym, subst, [], None}
+use Rattle.std.proofs.Common.{sym, subst, [], None}
 use Rattle.app_tree.specs.View.{shape_of}
 use Rattle.app_tree.specs.Held.{Held}
 use Rattle.shiny_main.specs.declared.status.Status.{Status}

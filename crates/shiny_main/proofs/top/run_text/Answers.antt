@@ -1,4 +1,4 @@
-use Rattle.std.proofs.Common.{◌≡◌, ◌∙◌, ap, sym, subst, List, ℕ}
+use Rattle.std.proofs.Common.{subst, List, ℕ}
 use Rattle.shiny_main.specs.Top.{AppGives}
 use Rattle.shiny_main.specs.Words.{replay_file}
 use Rattle.shiny_main.proofs.Tops.{is_read, found_gives, words_give}

@@ -1,4 +1,4 @@
-use Rattle.std.proofs.Common.{List, ℕ, Option, ◌∷◌, ◌∙◌, ap, sym, refl}
+use Rattle.std.proofs.Common.{Option, ◌∷◌, ◌∙◌, ap, sym, refl}
 use Rattle.std.specs.Option.{option_map}
 use Rattle.app_tree.specs.View.{shape_of}
 use Rattle.session_model.specs.Transcript.{Open, line_of}

@@ -1,4 +1,4 @@
-use Rattle.std.proofs.Common.{◌+◌, ◌-◌, length}
+use Rattle.std.proofs.Common.{◌-◌, length}
 use Rattle.shiny_main.proofs.LineSteps.{Coming}
 use Rattle.shiny_main.proofs.lines.Lines.next.Given as goal
 
