@@ -9,6 +9,8 @@
 mod app;
 mod item;
 mod term;
+#[cfg(test)]
+mod tests;
 
 pub use app::App;
 pub use item::{Item, Items};

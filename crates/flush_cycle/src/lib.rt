@@ -16,8 +16,6 @@ mod names;
 mod running;
 mod stage;
 mod start;
-#[cfg(test)]
-mod tests;
 mod texts;
 mod waiting;
 
