@@ -8,3 +8,4 @@ pub mod Taking
 pub mod Turns
 pub mod Replays
 pub mod Tops
+pub mod Complete

@@ -98,3 +98,24 @@ InputFaults before now _ = ⊤
 abbrev pub OutputFaults : ℕ → ℕ → Status → Type 0
 OutputFaults before now status.WriteFault = Rose before now
 OutputFaults before now _ = ⊤
+
+-- ---- what is taken is replayed
+
+-- the words name a file, it stands for an app, and the app takes every line of the transcript
+pub record IsTaken (words : List (String Global)) (told : Option (List NamedFile)) (left : Option (List ℕ)) : Type 0 where
+  pub name : List ℕ
+  pub files : List NamedFile
+  pub content : List ℕ
+  pub app : Shape
+  pub bytes : List ℕ
+  pub named : replay_file words ≡ Some name
+  pub tells : told ≡ Some files
+  pub found : content_of files name ≡ Some content
+  pub stands : app_of content ≡ Some app
+  pub comes : left ≡ Some bytes
+  pub whole : (replayed app bytes).end ≡ done
+
+abbrev pub IsDoneOrMemory : Status → Type 0
+IsDoneOrMemory status.Done = ⊤
+IsDoneOrMemory status.Memory = ⊤
+IsDoneOrMemory _ = ⊥

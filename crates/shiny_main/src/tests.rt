@@ -71,13 +71,13 @@ fn run_on(
     alloc: Global,
     words: &[String],
     app: &str,
-    transcript: &[&str],
+    transcript: RxBytes,
     failing: &Failing<'_>,
 ) -> Result<Ran, Memory> {
     let mut files = MemFiles::new(alloc);
     files.add(alloc, "f", app.as_bytes())?;
     files.fail_read(alloc, failing.reads)?;
-    let mut input = MemSource::new(joined(alloc, transcript)?);
+    let mut input = MemSource::new(transcript);
     input.fail_take(alloc, failing.takes)?;
     let mut out = MemSink::new(alloc, 100_000)?;
     out.fail_put(alloc, failing.puts)?;
@@ -94,6 +94,7 @@ fn replays(
     failing: &Failing<'_>,
 ) -> Result<Ran, Memory> {
     let words = two_words(alloc, "replay", "f")?;
+    let transcript = joined(alloc, transcript)?;
     run_on(alloc, words.as_slice(), app, transcript, failing)
 }
 
@@ -171,7 +172,13 @@ fn statuses_have_their_causes(rt: HostRuntime) -> Result<(), Fail> {
     ];
     for (command, file, app, status, number) in cases {
         let words = two_words(alloc, command, file)?;
-        let ran = run_on(alloc, words.as_slice(), app, &[], &NONE_FAILS)?;
+        let ran = run_on(
+            alloc,
+            words.as_slice(),
+            app,
+            RxBytes::new(alloc),
+            &NONE_FAILS,
+        )?;
         assert_eq!(rt; ran.status, status, "{command} {file} {app:?}");
         assert_eq!(rt; ran.status.number(), number);
         assert_eq!(rt; ran.output.len(), 0, "{command} {file} {app:?}");
@@ -199,5 +206,102 @@ fn faults_leave_a_front_of_the_output(rt: HostRuntime) -> Result<(), Fail> {
         assert_eq!(rt; ran.status, status, "{reads:?} {takes:?} {puts:?}");
         assert!(rt; whole.as_slice().starts_with(ran.output.as_slice()));
     }
+    Ok(())
+}
+
+/// An init, and so many updates that change nothing.
+fn init_and_updates(alloc: Global, updates: usize) -> Result<String, AllocError> {
+    let mut lines = String::from_str(alloc, INIT)?;
+    for _ in 0..updates {
+        lines.push_str(EQUAL)?;
+    }
+    Ok(lines)
+}
+
+#[test]
+fn at_most_200_lines_are_taken(rt: HostRuntime) -> Result<(), Fail> {
+    let alloc = rt.alloc();
+    let most = init_and_updates(alloc, 199)?;
+    let ran = replays(alloc, COUNTER, &[most.as_str()], &NONE_FAILS)?;
+    assert_eq!(rt; ran.status, Status::Done);
+    let output = joined(alloc, &[CONFIG, RUN, ONE, OVER])?;
+    assert_eq!(rt; ran.output.as_slice(), output.as_slice());
+    let output = joined(alloc, &[CONFIG, RUN, ONE])?;
+    for line in [UPDATE, EQUAL, "\n"] {
+        let ran = replays(alloc, COUNTER, &[most.as_str(), line], &NONE_FAILS)?;
+        assert_eq!(rt; ran.status, Status::LineRefused, "{line:?}");
+        assert_eq!(rt; ran.output.as_slice(), output.as_slice(), "{line:?}");
+    }
+    Ok(())
+}
+
+/// An update in a line of 41 bytes and so many spaces.
+fn padded_update(alloc: Global, spaces: usize) -> Result<String, AllocError> {
+    let mut line = String::from_str(alloc, "s recv {\"method\":\"update\",\"data\":{\"n\":2}")?;
+    for _ in 0..spaces {
+        line.push(' ')?;
+    }
+    line.push('}')?;
+    Ok(line)
+}
+
+/// A client message has at most 65,536 bytes, and a line at most 70,000.
+#[test]
+fn long_lines_are_refused(rt: HostRuntime) -> Result<(), Fail> {
+    let alloc = rt.alloc();
+    let longest = padded_update(alloc, 65_502)?;
+    let ran = replays(alloc, COUNTER, &[INIT, longest.as_str()], &NONE_FAILS)?;
+    assert_eq!(rt; ran.status, Status::Done);
+    let output = joined(alloc, &[CONFIG, RUN, ONE, RUN, TWO, OVER])?;
+    assert_eq!(rt; ran.output.as_slice(), output.as_slice());
+    let output = joined(alloc, &[CONFIG, RUN, ONE])?;
+    for spaces in [65_503, 69_959, 69_960] {
+        let line = padded_update(alloc, spaces)?;
+        let ran = replays(
+            alloc,
+            COUNTER,
+            &[INIT, line.as_str(), "\n", UPDATE],
+            &NONE_FAILS,
+        )?;
+        assert_eq!(rt; ran.status, Status::LineRefused, "{spaces}");
+        assert_eq!(rt; ran.output.as_slice(), output.as_slice(), "{spaces}");
+    }
+    Ok(())
+}
+
+#[test]
+fn lines_that_are_not_utf8_are_refused(rt: HostRuntime) -> Result<(), Fail> {
+    let alloc = rt.alloc();
+    let words = two_words(alloc, "replay", "f")?;
+    let output = joined(alloc, &[CONFIG, RUN, ONE])?;
+    let lines: [&[u8]; 3] = [
+        b"\xff\n",
+        b"s recv {\"method\":\"update\",\"data\":{\"n\":2}}\xc3\n",
+        b"s recv {\"method\":\"update\",\"data\":{\"\xed\xa0\x80\":2}}\n",
+    ];
+    for line in lines {
+        let mut transcript = joined(alloc, &[INIT])?;
+        transcript.extend(line)?;
+        let ran = run_on(alloc, words.as_slice(), COUNTER, transcript, &NONE_FAILS)?;
+        assert_eq!(rt; ran.status, Status::LineRefused, "{line:?}");
+        assert_eq!(rt; ran.output.as_slice(), output.as_slice(), "{line:?}");
+    }
+    Ok(())
+}
+
+/// An app file has at most 262,144 bytes.
+#[test]
+fn long_files_are_refused(rt: HostRuntime) -> Result<(), Fail> {
+    let alloc = rt.alloc();
+    let mut app = String::from_str(alloc, "input n = 1;")?;
+    for _ in 0..262_132 {
+        app.push(' ')?;
+    }
+    let ran = replays(alloc, app.as_str(), &[], &NONE_FAILS)?;
+    assert_eq!(rt; ran.status, Status::Done);
+    app.push(' ')?;
+    let ran = replays(alloc, app.as_str(), &[], &NONE_FAILS)?;
+    assert_eq!(rt; ran.status, Status::AppRefused);
+    assert_eq!(rt; ran.output.len(), 0);
     Ok(())
 }

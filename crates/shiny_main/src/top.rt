@@ -1,5 +1,6 @@
 ghost use Rattle.std.specs.Prelude.{◌≡◌, ◌≤◌};
-ghost use Rattle.shiny_main.specs.Top.{status_of, AppGives, RunGives, FileFaults, InputFaults, OutputFaults};
+ghost use Rattle.rx_ports.specs.Faults.{Rose};
+ghost use Rattle.shiny_main.specs.Top.{status_of, AppGives, RunGives, FileFaults, InputFaults, OutputFaults, IsTaken, IsDoneOrMemory};
 
 use crate::load::{LoadError, load};
 use crate::status::Status;
@@ -42,6 +43,30 @@ fn run_app<S: Source, K: Sink>(alloc: Global, bytes: &[u8], input: &mut S, out: 
     }
 }
 
+fn replay_words<F: Files, S: Source, K: Sink>(
+    alloc: Global,
+    words: &[String],
+    files: &mut F,
+    input: &mut S,
+    out: &mut K,
+) -> Status
+    ensures gives { RunGives words.now (F.told files.old) (S.left input.old) (S.left input.new) (K.held out.old) (K.held out.new) result }
+    ensures told { F.told files.new ≡ F.told files.old }
+    ensures file { FileFaults (F.faults files.old) (F.faults files.new) result }
+    ensures read { InputFaults (S.faults input.old) (S.faults input.new) result }
+    ensures write { OutputFaults (K.faults out.old) (K.faults out.new) result }
+{
+    let Some(name) = replay_file(words) else {
+        return Status::WrongWords;
+    };
+    match files.read(alloc, name, FILE_LIMIT) {
+        FileRead::Found(bytes) => run_app(alloc, bytes.as_slice(), input, out),
+        FileRead::Absent => Status::FileAbsent,
+        FileRead::Failed => Status::FileFault,
+        FileRead::Memory => Status::Memory,
+    }
+}
+
 /// All that the program does: takes the words of the command line without the program's name, and
 /// the files, the input, the output and the note that it is handed.
 ///
@@ -60,15 +85,8 @@ pub fn run_text<F: Files, S: Source, K: Sink, N: Sink>(
     ensures read { InputFaults (S.faults input.old) (S.faults input.new) result }
     ensures write { OutputFaults (K.faults out.old) (K.faults out.new) result }
     ensures note { N.held note.new ≡ N.held note.old }
+    ensures complete { IsTaken words.now (F.told files.old) (S.left input.old) → ¬ Rose (F.faults files.old) (F.faults files.new) → ¬ Rose (S.faults input.old) (S.faults input.new) → ¬ Rose (K.faults out.old) (K.faults out.new) → IsDoneOrMemory result }
 {
     let _ = note;
-    let Some(name) = replay_file(words) else {
-        return Status::WrongWords;
-    };
-    match files.read(alloc, name, FILE_LIMIT) {
-        FileRead::Found(bytes) => run_app(alloc, bytes.as_slice(), input, out),
-        FileRead::Absent => Status::FileAbsent,
-        FileRead::Failed => Status::FileFault,
-        FileRead::Memory => Status::Memory,
-    }
+    replay_words(alloc, words, files, input, out)
 }

@@ -2,7 +2,7 @@ use Rattle.std.proofs.Common.{subst, List, ℕ}
 use Rattle.shiny_main.specs.Top.{AppGives}
 use Rattle.shiny_main.specs.Words.{replay_file}
 use Rattle.shiny_main.proofs.Tops.{is_read, found_gives, words_give}
-use Rattle.shiny_main.proofs.top.run_text.Goals as goal
+use Rattle.shiny_main.proofs.top.replay_words.Goals as goal
 
 pub returns-in-Found-clause-gives : goal.returns-in-Found-clause-gives
 returns-in-Found-clause-gives g c =
