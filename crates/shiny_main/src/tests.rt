@@ -10,6 +10,10 @@ const COUNTER: &str = "input n = 1;\ntext o { input$n }\n";
 const INIT: &str =
     "s recv {\"method\":\"init\",\"data\":{\"n\":1,\".clientdata_output_o_hidden\":false}}\n";
 
+/// Its line without its line feed.
+const INIT_CUT: &str =
+    "s recv {\"method\":\"init\",\"data\":{\"n\":1,\".clientdata_output_o_hidden\":false}}";
+
 const UPDATE: &str = "s recv {\"method\":\"update\",\"data\":{\"n\":2}}\n";
 
 const EQUAL: &str = "s recv {\"method\":\"update\",\"data\":{\"n\":1}}\n";
@@ -113,7 +117,7 @@ fn transcripts_are_answered(rt: HostRuntime) -> Result<(), Fail> {
         ("", &[empty_init], &[CONFIG, NOTHING, OVER]),
         (COUNTER, &[INIT, EQUAL], &[CONFIG, RUN, ONE, OVER]),
         (COUNTER, &[empty_init, UPDATE], &[CONFIG, NOTHING, OVER]),
-        (COUNTER, &[INIT.trim_end()], &[CONFIG, RUN, ONE, OVER]),
+        (COUNTER, &[INIT_CUT], &[CONFIG, RUN, ONE, OVER]),
     ];
     for (app, transcript, output) in cases {
         let ran = replays(alloc, app, transcript, &NONE_FAILS)?;
@@ -228,7 +232,9 @@ fn at_most_200_lines_are_taken(rt: HostRuntime) -> Result<(), Fail> {
     assert_eq!(rt; ran.output.as_slice(), output.as_slice());
     let output = joined(alloc, &[CONFIG, RUN, ONE])?;
     for line in [UPDATE, EQUAL, "\n"] {
-        let ran = replays(alloc, COUNTER, &[most.as_str(), line], &NONE_FAILS)?;
+        let mut more = init_and_updates(alloc, 199)?;
+        more.push_str(line)?;
+        let ran = replays(alloc, COUNTER, &[more.as_str()], &NONE_FAILS)?;
         assert_eq!(rt; ran.status, Status::LineRefused, "{line:?}");
         assert_eq!(rt; ran.output.as_slice(), output.as_slice(), "{line:?}");
     }
