@@ -18,37 +18,51 @@ mod words;
 use crate::real::{Reading, RealFiles, Writing};
 use crate::status::Status;
 use crate::top::run_text;
+use rx_value::Memory;
 use std::env::Env;
 use std::process::ExitCode;
 use std::{env, io};
 
 /// The words of the command line, without the program's name. Words that aren't text are no
-/// command's.
-fn given_words(rt: &(impl Env + AllocGlobal)) -> Vec<String> {
+/// command's: there are none then.
+fn given_words(rt: &(impl Env + AllocGlobal)) -> Result<Vec<String>, Memory> {
     let mut words = Vec::new(rt.alloc());
-    if let Ok(args) = env::args(rt) {
-        for word in args.skip(1) {
-            if words.push(word).is_err() {
-                break;
+    match env::args(rt) {
+        Ok(args) => {
+            for word in args.skip(1) {
+                if words.push(word).is_err() {
+                    return Err(Memory);
+                }
+            }
+        }
+        Err(error) => {
+            if error.kind() == io::ErrorKind::OutOfMemory {
+                return Err(Memory);
             }
         }
     }
-    words
+    Ok(words)
 }
 
-fn main(rt: HostRuntime) -> ExitCode {
-    let words = given_words(&rt);
-    let mut files = RealFiles::new(&rt);
+fn run(rt: &HostRuntime, words: &[String]) -> Status {
+    let mut files = RealFiles::new(rt);
     let mut input = Reading::new(rt.reader());
-    let mut out = Writing::new(io::writer(&rt));
+    let mut out = Writing::new(io::writer(rt));
     let mut note = Writing::new(rt.stderr());
-    let status = run_text(
+    run_text(
         rt.alloc(),
-        words.as_slice(),
+        words,
         &mut files,
         &mut input,
         &mut out,
         &mut note,
-    );
+    )
+}
+
+fn main(rt: HostRuntime) -> ExitCode {
+    let status = match given_words(&rt) {
+        Ok(words) => run(&rt, words.as_slice()),
+        Err(Memory) => Status::Memory,
+    };
     ExitCode::from(status.number())
 }
