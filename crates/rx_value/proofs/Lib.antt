@@ -1,0 +1,4 @@
+pub mod Examples
+pub mod Division
+pub mod DecimalDigits
+pub mod Lists

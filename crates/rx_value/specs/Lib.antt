@@ -1,2 +1,11 @@
 pub mod Value
 pub mod Show
+pub mod Failure
+pub mod Numbers
+pub mod Arithmetic
+pub mod Operators
+pub mod Functions
+pub mod Truth
+pub mod Plot
+pub mod Weight
+pub mod Keys

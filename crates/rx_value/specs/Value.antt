@@ -1,8 +1,9 @@
--- When two values, outcomes or source values are the same: of one kind, with the same content.
-use Rattle.std.specs.Prelude.{ℤ, Bool, true, false, not, ◌&&◌, List, [], ◌∷◌, bytes_eq}
+-- When two values, outcomes, keys or source values are the same: of one kind, with the same content.
+use Rattle.std.specs.Prelude.{ℤ, Bool, true, false, not, ◌&&◌, ◌==◌, List, [], ◌∷◌, bytes_eq}
 use Rattle.std.specs.Ordering.{int_eq}
 use Rattle.rx_value.specs.declared.value.Value.{Value}
 use Rattle.rx_value.specs.declared.value.Value.TheVariants as v
+use Rattle.rx_value.specs.declared.key.Key.{Key}
 use Rattle.rx_value.specs.declared.outcome.Outcome.{Outcome}
 use Rattle.rx_value.specs.declared.outcome.Outcome.TheVariants as o
 use Rattle.rx_value.specs.declared.source.TaskView.{TaskView}
@@ -27,6 +28,15 @@ value_eq (v.Int a) (v.Int b) = int_eq a b
 value_eq (v.Text a) (v.Text b) = bytes_eq a b
 value_eq (v.Ints a) (v.Ints b) = ints_eq a b
 value_eq _ _ = false
+
+abbrev pub values_eq : List Value → List Value → Bool
+values_eq [] [] = true
+values_eq (v ∷ vs) (w ∷ ws) = value_eq v w && values_eq vs ws
+values_eq [] (w ∷ ws) = false
+values_eq (v ∷ vs) [] = false
+
+abbrev pub key_eq : Key → Key → Bool
+key_eq k l = (k.node == l.node) && values_eq k.parts l.parts
 
 abbrev pub outcome_eq : Outcome → Outcome → Bool
 outcome_eq (o.Val a) (o.Val b) = value_eq a b

@@ -5,19 +5,41 @@
 //! its numbers. Every call that takes memory answers [`Memory`] where it finds none.
 #![tactic(auto)]
 
+mod arithmetic;
+mod calling;
+mod failure;
+mod function;
+#[cfg(test)]
+mod function_tests;
+mod key;
 mod list;
 mod memory;
+mod numbers;
+mod operation;
+mod operator;
+#[cfg(test)]
+mod operator_tests;
 mod outcome;
+mod plot;
 mod shown;
 mod source;
+mod spelling;
 #[cfg(test)]
 mod tests;
 mod text;
 mod value;
+mod weight;
 
-pub use list::{RxInts, RxList};
+pub use calling::call;
+pub use failure::Failure;
+pub use function::Fun;
+pub use key::Key;
+pub use list::{RxInts, RxList, Values};
 pub use memory::Memory;
+pub use operation::{binary, unary};
+pub use operator::{BinOp, UnOp};
 pub use outcome::Outcome;
+pub use plot::Plot;
 pub use shown::show;
 pub use source::{SourceValue, TaskView};
 pub use text::RxText;

@@ -1,6 +1,7 @@
 ghost use Rattle.std.specs.Prelude.{◌≡◌, [], ◌∷◌, ◌++◌, ◌<◌, IfOk, OnOk, OnErr, length, Some, slice_get, slice_set};
 
 use crate::memory::Memory;
+use crate::value::Value;
 use std::alloc::Global;
 use std::marker::Model;
 
@@ -12,6 +13,9 @@ pub struct RxList<T> {
 
 /// A list of whole numbers.
 pub type RxInts = RxList<i64>;
+
+/// A list of values.
+pub type Values = RxList<Value>;
 
 impl<T> Model for RxList<T> {
     ghost use Rattle.std.specs.Prelude.{List};
@@ -86,5 +90,18 @@ impl<T: Copy> RxList<T> {
             Ok(elements) => Ok(RxList { elements }),
             Err(_) => Err(Memory),
         }
+    }
+}
+
+impl RxList<Value> {
+    /// An equal list of values.
+    pub fn copy_values(&self, alloc: Global) -> Result<Values, Memory>
+        ensures { IfOk result (λ list. list ≡ self.now) }
+    {
+        let mut copied = Values::new(alloc);
+        for value in self.as_slice() {
+            copied.push(value.copy(alloc)?)?;
+        }
+        Ok(copied)
     }
 }

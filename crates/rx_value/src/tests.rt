@@ -1,17 +1,58 @@
-use crate::{Memory, Outcome, RxInts, RxText, Value, show};
+use crate::{Key, Memory, Outcome, RxInts, RxText, SourceValue, TaskView, Value, Values, show};
 use std::alloc::Global;
+use std::collections::HashMap;
 use std::test::Fail;
 
-fn text_of(alloc: Global, text: &str) -> Result<Value, Memory> {
+pub fn text_of(alloc: Global, text: &str) -> Result<Value, Memory> {
     Ok(Value::Text(RxText::from_str(alloc, text)?))
 }
 
-fn list_of(alloc: Global, numbers: &[i64]) -> Result<Value, Memory> {
+pub fn list_of(alloc: Global, numbers: &[i64]) -> Result<Value, Memory> {
     let mut list = RxInts::new(alloc);
     for number in numbers {
         list.push(*number)?;
     }
     Ok(Value::Ints(list))
+}
+
+fn numbers_of(alloc: Global, words: &str) -> Result<Value, Memory> {
+    let mut list = RxInts::new(alloc);
+    for word in words.split_whitespace() {
+        list.push(word.parse::<i64>().unwrap_or(0))?;
+    }
+    Ok(Value::Ints(list))
+}
+
+/// The value that some words stand for: `NULL`, `TRUE`, `FALSE`, a number, a list behind a `c`, or
+/// else a text, which may have a quote before it.
+pub fn value_of(alloc: Global, words: &str) -> Result<Value, Memory> {
+    match words {
+        "NULL" => return Ok(Value::Null),
+        "TRUE" => return Ok(Value::Bool(true)),
+        "FALSE" => return Ok(Value::Bool(false)),
+        _ => {}
+    }
+    if let Some(numbers) = words.strip_prefix('c') {
+        return numbers_of(alloc, numbers);
+    }
+    match words.parse::<i64>() {
+        Ok(number) => Ok(Value::Int(number)),
+        Err(_) => text_of(alloc, words.strip_prefix('\'').unwrap_or(words)),
+    }
+}
+
+/// What an outcome is, in words: a failure behind `! `.
+pub fn told(alloc: Global, outcome: &Outcome) -> Result<RxText, Memory> {
+    match outcome {
+        Outcome::Val(Value::Null) => RxText::from_str(alloc, "NULL"),
+        Outcome::Val(value) => show(alloc, value),
+        Outcome::Fail(failure) => {
+            let mut text = RxText::from_str(alloc, "! ")?;
+            text.push_str(failure.as_str())?;
+            Ok(text)
+        }
+        Outcome::Stop | Outcome::Cancel | Outcome::Running => RxText::from_str(alloc, "no value"),
+    }
 }
 
 #[test]
@@ -20,11 +61,15 @@ fn texts_and_lists_grow(rt: HostRuntime) -> Result<(), Fail> {
     let mut text = RxText::from_str(alloc, "a")?;
     text.push('é')?;
     text.push_str("z\n")?;
-    assert_eq!(rt; text.copy(alloc)?.as_str(), "aéz\n");
+    let copy = text.copy(alloc)?;
+    assert_eq!(rt; copy.as_str(), "aéz\n");
+    assert!(rt; copy.same(&text));
+    assert!(rt; text.len() == 5 && text.get(3) == b'z');
     let mut list = RxInts::new(alloc);
     list.push(4)?;
     list.push(5)?;
     assert_eq!(rt; list.len(), 2);
+    assert_eq!(rt; *list.get(0), 4);
     list.set(1, -6);
     assert_eq!(rt; list.copy(alloc)?.as_slice(), [4, -6].as_slice());
     Ok(())
@@ -65,5 +110,127 @@ fn copies_each_outcome(rt: HostRuntime) -> Result<(), Fail> {
             assert_eq!(rt; copy.same(other), place == other_place);
         }
     }
+    Ok(())
+}
+
+fn key_of(alloc: Global, node: u32, part: Value) -> Result<Key, Memory> {
+    let mut parts = Values::new(alloc);
+    parts.push(part)?;
+    Ok(Key { node, parts })
+}
+
+#[test]
+fn weighs_each_kind(rt: HostRuntime) -> Result<(), Fail> {
+    let alloc = rt.alloc();
+    let rows = [
+        (Value::Null, 1),
+        (Value::Bool(false), 2),
+        (Value::Int(-1), 9),
+        (text_of(alloc, "éa")?, 8),
+        (list_of(alloc, &[])?, 5),
+        (list_of(alloc, &[1, 2, 3])?, 29),
+    ];
+    for (value, want) in &rows {
+        assert_eq!(rt; value.weight(), *want);
+    }
+    assert_eq!(rt; Outcome::Val(Value::Int(5)).weight(), 9);
+    assert_eq!(rt; Outcome::Fail(RxText::from_str(alloc, "bad")?).weight(), 8);
+    for outcome in [Outcome::Stop, Outcome::Cancel, Outcome::Running] {
+        assert_eq!(rt; outcome.weight(), 1);
+    }
+    Ok(())
+}
+
+#[test]
+fn keys_are_told_apart_by_number_and_values(rt: HostRuntime) -> Result<(), Fail> {
+    let alloc = rt.alloc();
+    let mut key = key_of(alloc, 3, Value::Int(7))?;
+    assert_eq!(rt; key.weight(), 13);
+    assert!(rt; key == key_of(alloc, 3, Value::Int(7))?);
+    assert!(rt; !key.same(&key_of(alloc, 4, Value::Int(7))?));
+    assert!(rt; !key.same(&key_of(alloc, 3, Value::Int(8))?));
+    key.parts.push(text_of(alloc, "x")?)?;
+    key.parts.push(list_of(alloc, &[2])?)?;
+    assert_eq!(rt; key.weight(), 32);
+    let copy = key.copy(alloc)?;
+    assert!(rt; copy.same(&key));
+    for (bytes, weight) in [(0, 9), (4087, 4096), (4088, 4097)] {
+        let mut text = RxText::new(alloc);
+        for _ in 0..bytes {
+            text.push('k')?;
+        }
+        assert_eq!(rt; key_of(alloc, 0, Value::Text(text))?.weight(), weight);
+    }
+    Ok(())
+}
+
+#[test]
+fn req_lets_truthy_values_pass(rt: HostRuntime) -> Result<(), Fail> {
+    let rows = [
+        ("NULL", false),
+        ("FALSE", false),
+        ("TRUE", true),
+        ("0", true),
+        ("-1", true),
+        ("'", false),
+        ("'0", true),
+        ("'FALSE", true),
+        ("c", false),
+        ("c 0", true),
+    ];
+    for (words, want) in rows {
+        assert_eq!(rt; value_of(rt.alloc(), words)?.truthy(), want, "{words}");
+    }
+    Ok(())
+}
+
+#[test]
+fn the_longest_list_is_shown_in_20999_bytes(rt: HostRuntime) -> Result<(), Fail> {
+    let mut list = RxInts::new(rt.alloc());
+    for _ in 0..1000 {
+        list.push(i64::MIN)?;
+    }
+    assert_eq!(rt; show(rt.alloc(), &Value::Ints(list))?.len(), 20_999);
+    Ok(())
+}
+
+fn sources_of_each_kind() -> [SourceValue; 8] {
+    [
+        SourceValue::Plain(Value::Int(1)),
+        SourceValue::Plain(Value::Null),
+        SourceValue::Frozen(Value::Int(1)),
+        SourceValue::Task(TaskView::Initial),
+        SourceValue::Task(TaskView::Running),
+        SourceValue::Task(TaskView::Success(Value::Int(1))),
+        SourceValue::Task(TaskView::Error(Outcome::Stop)),
+        SourceValue::Task(TaskView::Error(Outcome::Val(Value::Int(1)))),
+    ]
+}
+
+#[test]
+fn a_source_is_the_same_as_itself_alone(rt: HostRuntime) -> Result<(), Fail> {
+    let (firsts, seconds) = (sources_of_each_kind(), sources_of_each_kind());
+    for (place, first) in firsts.iter().enumerate() {
+        for (other_place, second) in seconds.iter().enumerate() {
+            assert_eq!(rt;
+                first.same(second),
+                place == other_place,
+                "{place} {other_place}"
+            );
+        }
+    }
+    Ok(())
+}
+
+#[test]
+fn equal_keys_find_one_entry(rt: HostRuntime) -> Result<(), Fail> {
+    let alloc = rt.alloc();
+    let mut places = HashMap::new(alloc);
+    places.insert(key_of(alloc, 1, text_of(alloc, "a")?)?, 10)?;
+    places.insert(key_of(alloc, 1, list_of(alloc, &[1])?)?, 20)?;
+    places.insert(key_of(alloc, 1, Value::Bool(true))?, 30)?;
+    places.insert(key_of(alloc, 1, Value::Null)?, 40)?;
+    let key = key_of(alloc, 1, list_of(alloc, &[1])?)?;
+    assert_eq!(rt; places.get(&key), Some(&20));
     Ok(())
 }

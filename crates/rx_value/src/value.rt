@@ -1,5 +1,7 @@
-ghost use Rattle.std.specs.Prelude.{◌≡◌, IfOk};
+ghost use Rattle.std.specs.Prelude.{◌≡◌, IfOk, MatchOption, None, Some};
 ghost use Rattle.rx_value.specs.Value.{value_eq, ints_eq};
+ghost use Rattle.rx_value.specs.Numbers.{numbers_of};
+ghost use Rattle.rx_value.specs.Truth.{truthy};
 
 use crate::list::RxInts;
 use crate::memory::Memory;
@@ -47,6 +49,32 @@ impl Value {
             (Value::Text(a), Value::Text(b)) => a.same(b),
             (Value::Ints(a), Value::Ints(b)) => same_numbers(a.as_slice(), b.as_slice()),
             _ => false,
+        }
+    }
+
+    /// Whether `req` lets the value pass: all but NULL, FALSE, the empty text and the empty list.
+    pub fn truthy(&self) -> bool
+        ensures { result ≡ truthy self.now }
+    {
+        match self {
+            Value::Null => false,
+            Value::Bool(truth) => *truth,
+            Value::Int(_) => true,
+            Value::Text(text) => !text.as_str().is_empty(),
+            Value::Ints(numbers) => !numbers.as_slice().is_empty(),
+        }
+    }
+
+    /// The numbers that the value gives where a list is asked for: a list its numbers, NULL none, a
+    /// number itself. No other kind is a list.
+    pub fn numbers(&self) -> Option<&[i64]>
+        ensures { MatchOption result (numbers_of self.now ≡ None) (λ numbers. numbers_of self.now ≡ Some numbers.now) }
+    {
+        match self {
+            Value::Null => Some(&[]),
+            Value::Int(number) => Some(std::slice::from_ref(number)),
+            Value::Ints(numbers) => Some(numbers.as_slice()),
+            Value::Bool(_) | Value::Text(_) => None,
         }
     }
 }

@@ -1,0 +1,4 @@
+pub mod Entries
+pub mod Eviction
+pub mod Apart
+pub mod Filling

@@ -1,0 +1,298 @@
+use crate::{Book, BookClaim, CacheLimits, Filled, Shelf};
+use rx_value::{Key, Memory, Outcome, RxText, Value, Values};
+use std::alloc::Global;
+use std::marker::Send;
+use std::test::Fail;
+
+/// A call for the key of this number, by this owner.
+#[derive(Clone, Copy)]
+enum Call {
+    Claim(i64, u64),
+    /// The outcome is this number.
+    Fill(i64, u64, i64),
+    /// The outcome is a text of so many bytes.
+    FillText(i64, u64, usize),
+    Abandon(i64, u64),
+}
+
+#[derive(Clone, Copy, Debug, PartialEq, Eq)]
+enum Told {
+    Hit(i64),
+    OtherHit,
+    Busy(u64),
+    Mine,
+    NoMemory,
+    Filled(Filled),
+    Abandoned,
+    NotHeld,
+}
+
+fn key_of(alloc: Global, number: i64) -> Result<Key, Memory> {
+    let mut parts = Values::new(alloc);
+    parts.push(Value::Int(number))?;
+    Ok(Key { node: 0, parts })
+}
+
+fn text_of(alloc: Global, bytes: usize) -> Result<RxText, Memory> {
+    let mut text = RxText::new(alloc);
+    for _ in 0..bytes {
+        text.push('x')?;
+    }
+    Ok(text)
+}
+
+fn told_of(claim: &BookClaim) -> Told {
+    match claim {
+        BookClaim::Hit(Outcome::Val(Value::Int(number))) => Told::Hit(*number),
+        BookClaim::Hit(_) => Told::OtherHit,
+        BookClaim::Busy(owner) => Told::Busy(*owner),
+        BookClaim::Mine => Told::Mine,
+        BookClaim::Memory => Told::NoMemory,
+    }
+}
+
+fn fill(alloc: Global, book: &mut Book, key: &Key, owner: u64, got: &Outcome) -> Told {
+    if book.holds(key, owner) {
+        Told::Filled(book.fill(alloc, key, owner, got))
+    } else {
+        Told::NotHeld
+    }
+}
+
+fn abandon(book: &mut Book, key: &Key, owner: u64) -> Told {
+    if book.holds(key, owner) {
+        book.abandon(key, owner);
+        Told::Abandoned
+    } else {
+        Told::NotHeld
+    }
+}
+
+fn tell(alloc: Global, book: &mut Book, call: Call) -> Result<Told, Memory> {
+    match call {
+        Call::Claim(number, owner) => {
+            let key = key_of(alloc, number)?;
+            Ok(told_of(&book.claim(alloc, &key, owner)))
+        }
+        Call::Fill(number, owner, got) => {
+            let key = key_of(alloc, number)?;
+            Ok(fill(alloc, book, &key, owner, &Outcome::Val(Value::Int(got))))
+        }
+        Call::FillText(number, owner, bytes) => {
+            let key = key_of(alloc, number)?;
+            let got = Outcome::Val(Value::Text(text_of(alloc, bytes)?));
+            Ok(fill(alloc, book, &key, owner, &got))
+        }
+        Call::Abandon(number, owner) => {
+            let key = key_of(alloc, number)?;
+            Ok(abandon(book, &key, owner))
+        }
+    }
+}
+
+#[test]
+fn one_entry_is_shared_by_two_seats(rt: HostRuntime) -> Result<(), Fail> {
+    let calls = [
+        (Call::Claim(1, 0), Told::Mine),
+        (Call::Claim(1, 1), Told::Busy(0)),
+        (Call::Fill(1, 0, 5), Told::Filled(Filled::Stored(0))),
+        (Call::Claim(1, 1), Told::Hit(5)),
+        (Call::Claim(2, 1), Told::Mine),
+        (Call::Abandon(2, 1), Told::Abandoned),
+        (Call::Claim(2, 0), Told::Mine),
+        (Call::Fill(2, 0, 6), Told::Filled(Filled::Stored(1))),
+        (Call::Claim(1, 0), Told::Mine),
+    ];
+    let mut book = Book::new(rt.alloc(), 1, 200_000_000)?;
+    for (call, want) in calls {
+        assert_eq!(rt; tell(rt.alloc(), &mut book, call)?, want);
+    }
+    assert_eq!(rt; book.len(), 1);
+    Ok(())
+}
+
+#[test]
+fn weight_bounds_the_entries(rt: HostRuntime) -> Result<(), Fail> {
+    let calls = [
+        (Call::Claim(1, 7), Told::Mine),
+        (Call::Fill(1, 7, 5), Told::Filled(Filled::Stored(0))),
+        (Call::Claim(2, 8), Told::Mine),
+        (Call::Fill(2, 8, 5), Told::Filled(Filled::Stored(1))),
+        (Call::Claim(3, 9), Told::Mine),
+        (Call::FillText(3, 9, 30), Told::Filled(Filled::TooHeavy)),
+        (Call::Claim(2, 9), Told::Hit(5)),
+        (Call::Claim(3, 9), Told::Mine),
+    ];
+    let mut book = Book::new(rt.alloc(), 10, 40)?;
+    for (call, want) in calls {
+        assert_eq!(rt; tell(rt.alloc(), &mut book, call)?, want);
+    }
+    Ok(())
+}
+
+#[test]
+fn a_heavy_entry_drops_several_and_a_hit_is_spared(rt: HostRuntime) -> Result<(), Fail> {
+    let calls = [
+        (Call::Claim(1, 0), Told::Mine),
+        (Call::Fill(1, 0, 1), Told::Filled(Filled::Stored(0))),
+        (Call::Claim(2, 0), Told::Mine),
+        (Call::Fill(2, 0, 2), Told::Filled(Filled::Stored(0))),
+        (Call::Claim(3, 0), Told::Mine),
+        (Call::Fill(3, 0, 3), Told::Filled(Filled::Stored(0))),
+        (Call::Claim(1, 0), Told::Hit(1)),
+        (Call::Claim(4, 0), Told::Mine),
+        (Call::FillText(4, 0, 60), Told::Filled(Filled::Stored(2))),
+        (Call::Claim(1, 0), Told::Hit(1)),
+        (Call::Claim(4, 0), Told::OtherHit),
+        (Call::Claim(2, 0), Told::Mine),
+    ];
+    let mut book = Book::new(rt.alloc(), 10, 100)?;
+    for (call, want) in calls {
+        assert_eq!(rt; tell(rt.alloc(), &mut book, call)?, want);
+    }
+    Ok(())
+}
+
+#[test]
+fn an_entry_may_weigh_as_much_as_the_limit(rt: HostRuntime) -> Result<(), Fail> {
+    let calls = [
+        (Call::Claim(1, 0), Told::Mine),
+        (Call::FillText(1, 0, 22), Told::Filled(Filled::Stored(0))),
+        (Call::Claim(2, 0), Told::Mine),
+        (Call::FillText(2, 0, 23), Told::Filled(Filled::TooHeavy)),
+        (Call::Claim(1, 0), Told::OtherHit),
+        (Call::Claim(2, 5), Told::Mine),
+        (Call::FillText(2, 5, 22), Told::Filled(Filled::Stored(1))),
+        (Call::Claim(1, 0), Told::Mine),
+        (Call::Claim(2, 0), Told::OtherHit),
+    ];
+    let mut book = Book::new(rt.alloc(), 10, 40)?;
+    for (call, want) in calls {
+        assert_eq!(rt; tell(rt.alloc(), &mut book, call)?, want);
+    }
+    assert_eq!(rt; book.len(), 1);
+    Ok(())
+}
+
+#[test]
+fn each_key_in_flight_has_its_own_owner(rt: HostRuntime) -> Result<(), Fail> {
+    let calls = [
+        (Call::Claim(1, 0), Told::Mine),
+        (Call::Claim(2, 1), Told::Mine),
+        (Call::Claim(3, 0), Told::Mine),
+        (Call::Abandon(1, 1), Told::NotHeld),
+        (Call::Fill(1, 1, 9), Told::NotHeld),
+        (Call::Abandon(1, 0), Told::Abandoned),
+        (Call::Abandon(1, 0), Told::NotHeld),
+        (Call::Claim(2, 0), Told::Busy(1)),
+        (Call::Claim(3, 1), Told::Busy(0)),
+        (Call::Claim(1, 1), Told::Mine),
+        (Call::Fill(2, 1, 7), Told::Filled(Filled::Stored(0))),
+        (Call::Claim(1, 2), Told::Busy(1)),
+        (Call::Claim(2, 2), Told::Hit(7)),
+        (Call::Fill(2, 1, 8), Told::NotHeld),
+    ];
+    let mut book = Book::new(rt.alloc(), 10, 200_000_000)?;
+    for (call, want) in calls {
+        assert_eq!(rt; tell(rt.alloc(), &mut book, call)?, want);
+    }
+    Ok(())
+}
+
+fn keys_of_each_kind(alloc: Global) -> Result<[Key; 6], Memory> {
+    let mut two_parts = key_of(alloc, 1)?;
+    two_parts.parts.push(Value::Null)?;
+    let mut text = Values::new(alloc);
+    text.push(Value::Text(RxText::from_str(alloc, "1")?))?;
+    let mut truth = Values::new(alloc);
+    truth.push(Value::Bool(true))?;
+    Ok([
+        key_of(alloc, 1)?,
+        Key {
+            node: 1,
+            parts: key_of(alloc, 1)?.parts,
+        },
+        Key {
+            node: 0,
+            parts: Values::new(alloc),
+        },
+        two_parts,
+        Key {
+            node: 0,
+            parts: text,
+        },
+        Key {
+            node: 0,
+            parts: truth,
+        },
+    ])
+}
+
+#[test]
+fn a_hit_is_for_an_equal_key_alone(rt: HostRuntime) -> Result<(), Fail> {
+    let alloc = rt.alloc();
+    let keys = keys_of_each_kind(alloc)?;
+    for (place, kept) in keys.iter().enumerate() {
+        let mut book = Book::new(alloc, 10, 1_000)?;
+        assert_eq!(rt; told_of(&book.claim(alloc, kept, 0)), Told::Mine);
+        let filled = fill(alloc, &mut book, kept, 0, &Outcome::Val(Value::Int(5)));
+        assert_eq!(rt; filled, Told::Filled(Filled::Stored(0)));
+        for (other_place, other) in keys.iter().enumerate() {
+            let want = if place == other_place {
+                Told::Hit(5)
+            } else {
+                Told::Mine
+            };
+            assert_eq!(rt; told_of(&book.claim(alloc, other, 1)), want);
+        }
+    }
+    Ok(())
+}
+
+#[test]
+fn failures_are_kept_like_values(rt: HostRuntime) -> Result<(), Fail> {
+    let alloc = rt.alloc();
+    let outcomes = [
+        Outcome::Fail(RxText::from_str(alloc, "bad")?),
+        Outcome::Stop,
+        Outcome::Cancel,
+        Outcome::Running,
+        Outcome::Val(Value::Null),
+    ];
+    for outcome in &outcomes {
+        let mut book = Book::new(alloc, 1, 100)?;
+        let key = key_of(alloc, 1)?;
+        assert_eq!(rt; told_of(&book.claim(alloc, &key, 0)), Told::Mine);
+        let filled = fill(alloc, &mut book, &key, 0, outcome);
+        assert_eq!(rt; filled, Told::Filled(Filled::Stored(0)));
+        let BookClaim::Hit(kept) = book.claim(alloc, &key, 1) else {
+            return Err(Fail::from(Memory));
+        };
+        assert!(rt; kept.same(outcome));
+    }
+    Ok(())
+}
+
+#[test]
+fn an_empty_shelf_is_within_all_limits(rt: HostRuntime) -> Result<(), Fail> {
+    let shelf = Shelf::new(rt.alloc())?;
+    assert!(rt;
+        shelf.is_within(&CacheLimits {
+            entries: 0,
+            bytes: 0
+        })
+    );
+    assert_eq!(rt; shelf.len(), 0);
+    Ok(())
+}
+
+fn can_be_sent<T: Send>(_value: &T) -> bool {
+    true
+}
+
+#[test]
+fn a_cache_can_go_to_another_thread(rt: HostRuntime) -> Result<(), Fail> {
+    let book = Book::new(rt.alloc(), 20_000, 1_000_000_000)?;
+    assert!(rt; can_be_sent(&book));
+    Ok(())
+}

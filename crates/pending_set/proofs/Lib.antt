@@ -1,0 +1,4 @@
+pub mod Precedence
+pub mod Places
+pub mod Choice
+pub mod Nodes

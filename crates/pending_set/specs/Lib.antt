@@ -1,0 +1,4 @@
+pub mod Waiting
+pub mod Ranking
+pub mod Kept
+pub mod Tree

@@ -1,0 +1,4 @@
+pub mod Examples
+pub mod Scale
+pub mod Stopped
+pub mod Escapes

@@ -1,0 +1,7 @@
+use Rattle.std.proofs.Common.{arith}
+use Rattle.std.proofs.lemmas.Int.{ints}
+use Rattle.svg_plot.proofs.Scale.{int_max-greatest}
+use Rattle.svg_plot.proofs.frame.greatest.Goals as goal
+
+pub loop-number-init : goal.loop-number-init
+loop-number-init c = record { bound = omega (arith, ints); whole = int_max-greatest c.args.numbers.now }
