@@ -149,6 +149,11 @@ tokens_from whole zero place (b ∷ bs) =
     tokens_from whole (p.size - 1) (place + 1) bs >>= λ more.
     Ok (listed p.kind place (take p.size (b ∷ bs)) ++ more)
 
+-- these are the tokens of a text
+pub record AreCut (tokens : List Token) : Type 0 where
+  pub text : List ℕ
+  pub cut : tokens_from true 0 0 text ≡ Ok tokens
+
 -- the tokens of a file, or its first refusal: what stands before its first byte that is no UTF-8 is cut into tokens, and
 -- that byte is refused if nothing before it is
 unfoldable pub tokens_of : List ℕ → Result Tokens TokenError

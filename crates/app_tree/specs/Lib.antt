@@ -5,3 +5,12 @@ pub mod Numbering
 pub mod Current
 pub mod Evaluate
 pub mod Fresh
+pub mod DraftTree
+pub mod DraftView
+pub mod Declarations
+pub mod Resolve
+pub mod Faults
+pub mod Named
+pub mod Unplaced
+pub mod Fits
+pub mod WellFormed

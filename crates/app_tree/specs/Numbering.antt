@@ -1,45 +1,109 @@
--- How an app's sources and readers are numbered: each from 0, the inputs first among the sources,
--- everything in the order of the text.
-use Rattle.std.specs.Prelude.{ℕ, suc, Bool, true, false, List, [], ◌∷◌, filter, Option, Some, None, slice_get, bytes_eq, if◌then◌else◌}
+-- How an app's sources and readers are numbered, each from 0.
+use Rattle.std.specs.Prelude.{ℕ, suc, ◌+◌, Bool, true, false, ◌&&◌, ◌||◌, List, [], ◌∷◌, ◌++◌, map, filter, take, length, Option, Some, None, slice_get, bytes_eq, if◌then◌else◌}
+use Rattle.rx_value.specs.declared.value.Value.TheVariants.{Null}
+use Rattle.rx_value.specs.declared.source.TaskView.TheVariants.{Initial}
 use Rattle.rx_value.specs.declared.source.SourceValue.{SourceValue}
-use Rattle.rx_value.specs.declared.source.SourceValue.TheVariants.{Plain}
-use Rattle.app_tree.specs.Tree.{Node, input, text, Shape}
+use Rattle.rx_value.specs.declared.source.SourceValue.TheVariants.{Plain, Task}
+use Rattle.app_tree.specs.Tree.{Node, input, value, task, reactive, event, text, plot, observe, on, Shape}
 
 abbrev pub name_of : Node → List ℕ
 name_of (input name start) = name
-name_of (text name body) = name
+name_of (value name start) = name
+name_of (task name parameters body) = name
+name_of (reactive name keys body) = name
+name_of (event name flags e body) = name
+name_of (text name shown) = name
+name_of (plot name shown) = name
+name_of (observe name priority block) = name
+name_of (on name priority flags e block) = name
 
--- the values at which a session's sources start
-abbrev pub starting_values : List Node → List SourceValue
-starting_values [] = []
-starting_values (input name start ∷ more) = Plain start ∷ starting_values more
-starting_values (text name body ∷ more) = starting_values more
+-- ---- sorts of items
+
+abbrev pub is_input : Node → Bool
+is_input (input name start) = true
+is_input _ = false
+
+abbrev pub is_value : Node → Bool
+is_value (value name start) = true
+is_value _ = false
+
+abbrev pub is_task : Node → Bool
+is_task (task name parameters body) = true
+is_task _ = false
+
+abbrev pub is_expression : Node → Bool
+is_expression (reactive name keys body) = true
+is_expression (event name flags e body) = true
+is_expression _ = false
+
+abbrev pub is_output : Node → Bool
+is_output (text name shown) = true
+is_output (plot name shown) = true
+is_output _ = false
+
+abbrev pub is_observer : Node → Bool
+is_observer (observe name priority block) = true
+is_observer (on name priority flags e block) = true
+is_observer _ = false
 
 abbrev pub is_reader : Node → Bool
-is_reader (input name start) = false
-is_reader (text name body) = true
+is_reader i = is_expression i || is_output i || is_observer i
 
--- the readers, by number
+-- ---- readers
+
+-- the readers, by number: in the order of the text
 abbrev pub readers : Shape → List Node
 readers app = filter is_reader app.items
 
 abbrev pub reader : Shape → ℕ → Option Node
 reader app n = slice_get (readers app) n
 
--- the source number of the input of this name, where the first input of these items has number s
-abbrev pub input_from : ℕ → List ℕ → List Node → Option ℕ
-input_from s name [] = None
-input_from s name (input other start ∷ more) = if bytes_eq name other then Some s else input_from (suc s) name more
-input_from s name (text other body ∷ more) = input_from s name more
+-- ---- sources: the inputs, the values, the tasks, the widths and the heights of the outputs, each in the order of the text
 
+abbrev pub declared_value : Node → SourceValue
+declared_value (input name start) = Plain start
+declared_value (value name start) = Plain start
+declared_value (task name parameters body) = Task Initial
+declared_value _ = Plain Null
+
+-- the items that are sources themselves
+abbrev pub declared_sources : List Node → List Node
+declared_sources items = filter is_input items ++ filter is_value items ++ filter is_task items
+
+-- a width or a height is NULL until the client tells it
+abbrev pub unknown_sizes : List Node → List SourceValue
+unknown_sizes items = map (λ i. Plain Null) (filter is_output items)
+
+-- the values at which a session's sources start
+abbrev pub starting_values : List Node → List SourceValue
+starting_values items = map declared_value (declared_sources items) ++ unknown_sizes items ++ unknown_sizes items
+
+abbrev pub output_count : List Node → ℕ
+output_count items = length (filter is_output items)
+
+-- the number of the source that is the width of the output of reader number n
+abbrev pub width_source : Shape → ℕ → ℕ
+width_source app n = length (declared_sources app.items) + output_count (take n (readers app))
+
+abbrev pub height_source : Shape → ℕ → ℕ
+height_source app n = width_source app n + output_count app.items
+
+-- ---- numbers by name
+
+-- the number of the item of this name that `is` one of those sought, where of those that are `counted` the first has number n
+abbrev pub number_from : (Node → Bool) → (Node → Bool) → ℕ → List ℕ → List Node → Option ℕ
+number_from counted is n name [] = None
+number_from counted is n name (i ∷ more) =
+    if is i && bytes_eq name (name_of i) then Some n else number_from counted is (if counted i then suc n else n) name more
+
+-- the source number of the input of this name
 abbrev pub input_number : List ℕ → List Node → Option ℕ
-input_number name items = input_from 0 name items
+input_number name items = number_from is_input is_input 0 name items
 
--- the reader number of the output of this name, where the first reader of these items has number n
-abbrev pub output_from : ℕ → List ℕ → List Node → Option ℕ
-output_from n name [] = None
-output_from n name (text other body ∷ more) = if bytes_eq name other then Some n else output_from (suc n) name more
-output_from n name (input other start ∷ more) = output_from n name more
-
+-- the reader number of the output of this name
 abbrev pub output_number : List ℕ → List Node → Option ℕ
-output_number name items = output_from 0 name items
+output_number name items = number_from is_reader is_output 0 name items
+
+-- the place among the items of the item of this name
+abbrev pub item_number : List ℕ → List Node → Option ℕ
+item_number name items = number_from (λ i. true) (λ i. true) 0 name items

@@ -4,14 +4,31 @@
 //! are numbered from 0. What a term comes to on given answers, and what a reader comes to when it is
 //! evaluated afresh on a session's current values, are definitions of this crate, since everything
 //! above speaks of them.
+//!
+//! An [`App`] is checked and has numbers; a [`Draft`] is what an app file says, with names and places.
 #![tactic(auto)]
 
 mod app;
+mod cache_name;
+mod draft;
+mod draft_item;
+mod draft_term;
 mod item;
+mod refusal;
+mod statement;
 mod term;
 #[cfg(test)]
 mod tests;
 
 pub use app::App;
-pub use item::{Item, Items};
-pub use term::{Read, Term};
+pub use cache_name::CacheName;
+pub use draft::Draft;
+pub use draft_item::{
+    DraftAction, DraftBlock, DraftBody, DraftForm, DraftItem, DraftItems, DraftOutput,
+    DraftStatement, DraftWrite, DraftWrites,
+};
+pub use draft_term::{DraftTerm, DraftTerms, Name, Names, ReadForm};
+pub use item::{Flags, Item, Items, Output, Sort};
+pub use refusal::{Fault, Refusal};
+pub use statement::{Block, Statement};
+pub use term::{Function, Operator, Read, Term, Terms};

@@ -5,14 +5,12 @@ use Rattle.std.proofs.lemmas.List.{length-set, take-set}
 use Rattle.std.proofs.lemmas.List.Elements.{filter-append}
 use Rattle.rx_value.specs.declared.outcome.Outcome.{Outcome}
 use Rattle.rx_value.specs.declared.source.SourceValue.{SourceValue}
-use Rattle.app_tree.specs.declared.term.Term.{Term}
-use Rattle.app_tree.specs.declared.term.Term.TheVariants as term
-use Rattle.app_tree.specs.Tree.{Node, text, Tree, Shape}
-use Rattle.app_tree.specs.View.{tree_of}
+use Rattle.app_tree.specs.declared.term.Read.{Read}
+use Rattle.app_tree.specs.declared.term.Read.TheVariants.{Input}
+use Rattle.app_tree.specs.Tree.{Node, text, Shape}
 use Rattle.app_tree.specs.Numbering.{is_reader, reader}
-use Rattle.app_tree.specs.Current.{told}
-use Rattle.app_tree.specs.Evaluate.{Evaluation, evaluate}
-use Rattle.app_tree.specs.Fresh.{IsolatedOutcomes, isolated_outcome, evaluate_node, fresh_evaluation, sources_asked}
+use Rattle.app_tree.specs.Evaluate.{Answers, Evaluation, read_of}
+use Rattle.app_tree.specs.Fresh.{IsolatedOutcomes, kept_sites, answer_to, known_expressions, sources_of_reads, evaluate_node, fresh_evaluation}
 use Rattle.shiny_json.specs.declared.batch.BatchOutput.{BatchOutput}
 use Rattle.session_model.specs.declared.state.ReaderState.{ReaderState}
 use Rattle.session_model.specs.State.{SessionState, first_reader, isolated_of}
@@ -20,7 +18,8 @@ use Rattle.session_model.specs.Run.{run_reader, forgotten}
 use Rattle.session_model.specs.Flush.{Run, FlushEnd, done, budget_spent, flush_from, flush, flush_step, flush_end, waiting_from, next_waiting, with_last, run_of}
 use Rattle.session_model.specs.Texts.{name_at, batch_output, batch_outputs}
 use Rattle.flush_cycle.specs.State.{state_of}
-use Rattle.flush_cycle.specs.Passed.{IsPassed, WaitsAt, waits_at, passed_of, ran_reader, shown_output, body_outcome, plain_answers}
+use Rattle.flush_cycle.specs.Passed.{IsPassed, WaitsAt, waits_at, passed_of, ran_reader, shown_output, shown_outcome}
+use Rattle.flush_cycle.specs.Built.{plain_shown}
 use Rattle.flush_cycle.proofs.Passing.{split_at, waiting-found, none_before}
 
 pub record Going (app : Shape) (values : List SourceValue) (start readers : List ReaderState) (left : ℕ) (outputs : List BatchOutput) (place number : ℕ) : Type 0 where
@@ -54,34 +53,34 @@ slice_get-middle (y ∷ xs) x ys = slice_get-middle xs x ys
 
 -- ---- a run
 
--- no term of today asks a site
-plain_is : (body : Term) (values : List SourceValue) (sites : ℕ → Option Outcome) → evaluate (tree_of body) (record { read = told values; site = sites }) [] ≡ evaluate (tree_of body) (plain_answers values) []
-plain_is (term.Get r) values sites = refl
+abbrev sources_of : Shape → List SourceValue → IsolatedOutcomes → List Read → List ℕ
+sources_of app values isolated reads = sources_of_reads app (known_expressions app values (kept_sites isolated)) [] reads
 
-evaluation_is : (app : Shape) (values : List SourceValue) (isolated : IsolatedOutcomes) (n : ℕ) (name : List ℕ) (body : Term) → reader app n ≡ Some (text name (tree_of body))
-    → fresh_evaluation app values isolated n ≡ evaluate (tree_of body) (plain_answers values) []
-evaluation_is app values isolated n name body e =
-    let sites : ℕ → Option Outcome = λ site. Some (isolated_outcome isolated n site) in
-    ap (λ i. evaluate_node i (record { read = told values; site = sites })) e ∙ plain_is body values sites
+abbrev after_run : List ℕ → Outcome → ReaderState → ReaderState
+after_run sources outcome r = record { dependencies = Some (record { sources = sources; changed = false }); isolated = []; shown = r.shown; last = Some outcome }
 
-abbrev after_evaluation : Evaluation → ReaderState → ReaderState
-after_evaluation e r = record { dependencies = Some (record { sources = sources_asked e.asked; changed = false }); isolated = []; shown = r.shown; last = Some e.outcome }
+abbrev answers_at : Shape → List SourceValue → IsolatedOutcomes → ℕ → Answers
+answers_at app values isolated n = record { read = answer_to app values (known_expressions app values (kept_sites isolated)); site = kept_sites isolated n }
+
+evaluation_is : (app : Shape) (values : List SourceValue) (isolated : IsolatedOutcomes) (n : ℕ) (name : List ℕ) (s : ℕ) → reader app n ≡ Some (text name (plain_shown s))
+    → fresh_evaluation app values isolated n ≡ read_of (answers_at app values isolated n) (Input s)
+evaluation_is app values isolated n name s e = ap (λ i. evaluate_node i (answers_at app values isolated n)) e
 
 -- the state after a run of reader n, whose outcome is its last
-run_is : (app : Shape) (values : List SourceValue) (readers : List ReaderState) (n : ℕ) (name : List ℕ) (body : Term) → reader app n ≡ Some (text name (tree_of body)) → n < length readers
-    → with_last n (run_reader app n (state_of values readers)) ≡ state_of values (slice_set readers n (ran_reader body values (unwrap_or (slice_get readers n) first_reader)))
-run_is app values readers n name body e lt =
+run_is : (app : Shape) (values : List SourceValue) (readers : List ReaderState) (n : ℕ) (name : List ℕ) (s : ℕ) → reader app n ≡ Some (text name (plain_shown s)) → n < length readers
+    → with_last n (run_reader app n (state_of values readers)) ≡ state_of values (slice_set readers n (ran_reader s values (unwrap_or (slice_get readers n) first_reader)))
+run_is app values readers n name s e lt =
     let isolated = isolated_of (forgotten n (state_of values readers)) in
     let seen = fresh_evaluation app values isolated n in
     let forget : ReaderState → ReaderState = λ r. record r { isolated = [] } in
-    let depend : ReaderState → ReaderState = λ r. record r { dependencies = Some (record { sources = sources_asked seen.asked; changed = false }) } in
+    let depend : ReaderState → ReaderState = λ r. record r { dependencies = Some (record { sources = sources_of app values isolated seen.outside; changed = false }) } in
     let keep : ReaderState → ReaderState = λ r. record r { last = Some seen.outcome } in
     ap (state_of values) (update-thrice n first_reader forget depend keep readers lt
-    ∙ ap (λ e'. slice_set readers n (after_evaluation e' (unwrap_or (slice_get readers n) first_reader))) (evaluation_is app values isolated n name body e))
+    ∙ ap (λ (e' : Evaluation). slice_set readers n (after_run (sources_of app values isolated e'.outside) e'.outcome (unwrap_or (slice_get readers n) first_reader))) (evaluation_is app values isolated n name s e))
 
-outcome_is : (app : Shape) (values : List SourceValue) (readers : List ReaderState) (n : ℕ) (name : List ℕ) (body : Term) → reader app n ≡ Some (text name (tree_of body))
-    → (run_reader app n (state_of values readers)).outcome ≡ body_outcome body values
-outcome_is app values readers n name body e = ap (λ seen. seen.outcome) (evaluation_is app values (isolated_of (forgotten n (state_of values readers))) n name body e)
+outcome_is : (app : Shape) (values : List SourceValue) (readers : List ReaderState) (n : ℕ) (name : List ℕ) (s : ℕ) → reader app n ≡ Some (text name (plain_shown s))
+    → (run_reader app n (state_of values readers)).outcome ≡ shown_outcome s values
+outcome_is app values readers n name s e = ap (λ (seen : Evaluation). seen.outcome) (evaluation_is app values (isolated_of (forgotten n (state_of values readers))) n name s e)
 
 -- ---- the end
 
@@ -111,22 +110,22 @@ all_spent app values start readers left outputs place number n g none e =
 -- ---- one more run
 
 -- the readers, round the one that waits
-readers_round : (items : List Node) (p : ℕ) (name : List ℕ) (body : Tree) → slice_get items p ≡ Some (text name body) → filter is_reader items ≡ filter is_reader (take p items) ++ text name body ∷ filter is_reader (drop (suc p) items)
-readers_round items p name body e = ap (filter is_reader) (split_at items p (text name body) e) ∙ filter-append is_reader (take p items) (text name body ∷ drop (suc p) items)
+readers_round : (items : List Node) (p : ℕ) (name : List ℕ) (s : ℕ) → slice_get items p ≡ Some (text name (plain_shown s)) → filter is_reader items ≡ filter is_reader (take p items) ++ text name (plain_shown s) ∷ filter is_reader (drop (suc p) items)
+readers_round items p name s e = ap (filter is_reader) (split_at items p (text name (plain_shown s)) e) ∙ filter-append is_reader (take p items) (text name (plain_shown s) ∷ drop (suc p) items)
 
-pub next_is : (app : Shape) (values : List SourceValue) (readers : List ReaderState) (p n : ℕ) (name : List ℕ) (body : Term) → IsPassed app.items readers p n → WaitsAt app.items readers p n name body
+pub next_is : (app : Shape) (values : List SourceValue) (readers : List ReaderState) (p n : ℕ) (name : List ℕ) (s : ℕ) → IsPassed app.items readers p n → WaitsAt app.items readers p n name s
     → next_waiting app (state_of values readers) ≡ Some n
-next_is app values readers p n name body passed waits =
+next_is app values readers p n name s passed waits =
     let before = filter is_reader (take p app.items) in
-    ap (λ l. waiting_from 0 l readers) (readers_round app.items p name (tree_of body) waits.item)
-    ∙ waiting-found 0 before name (tree_of body) (filter is_reader (drop (suc p) app.items)) readers (none_before app.items readers p n passed) (ap (waits_at readers) passed.counted ∙ waits.waits)
+    ap (λ l. waiting_from 0 l readers) (readers_round app.items p name s waits.item)
+    ∙ waiting-found 0 before name s (filter is_reader (drop (suc p) app.items)) readers (none_before app.items readers p n passed) (ap (waits_at readers) passed.counted ∙ waits.waits)
     ∙ ap Some (zero-add (length before) ∙ passed.counted)
 
-reader_is : (app : Shape) (readers : List ReaderState) (p n : ℕ) (name : List ℕ) (body : Term) → IsPassed app.items readers p n → WaitsAt app.items readers p n name body → reader app n ≡ Some (text name (tree_of body))
-reader_is app readers p n name body passed waits =
+reader_is : (app : Shape) (readers : List ReaderState) (p n : ℕ) (name : List ℕ) (s : ℕ) → IsPassed app.items readers p n → WaitsAt app.items readers p n name s → reader app n ≡ Some (text name (plain_shown s))
+reader_is app readers p n name s passed waits =
     let before = filter is_reader (take p app.items) in
-    ap (λ l. slice_get l n) (readers_round app.items p name (tree_of body) waits.item) ∙ ap (slice_get (before ++ text name (tree_of body) ∷ filter is_reader (drop (suc p) app.items))) (sym passed.counted)
-    ∙ slice_get-middle before (text name (tree_of body)) (filter is_reader (drop (suc p) app.items))
+    ap (λ l. slice_get l n) (readers_round app.items p name s waits.item) ∙ ap (slice_get (before ++ text name (plain_shown s) ∷ filter is_reader (drop (suc p) app.items))) (sym passed.counted)
+    ∙ slice_get-middle before (text name (plain_shown s)) (filter is_reader (drop (suc p) app.items))
 
 pub waits_within : (readers : List ReaderState) (n : ℕ) → waits_at readers n ≡ true → n < length readers
 waits_within [] n e = cc
@@ -153,23 +152,23 @@ passed_with items readers p n r h = record {
 }
 
 -- one that waits was run
-pub one_more : (app : Shape) (values : List SourceValue) (start readers : List ReaderState) (left : ℕ) (outputs : List BatchOutput) (place number : ℕ) (name : List ℕ) (body : Term)
-    → Going app values start readers left outputs place number → 0 < left → (p n : ℕ) → IsPassed app.items readers p n → WaitsAt app.items readers p n name body
-    → Going app values start (slice_set readers n (ran_reader body values (unwrap_or (slice_get readers n) first_reader))) (left - 1) (outputs ++ shown_output name body values ∷ []) p n
-one_more app values start readers left outputs place number name body g some p n passed waits =
+pub one_more : (app : Shape) (values : List SourceValue) (start readers : List ReaderState) (left : ℕ) (outputs : List BatchOutput) (place number : ℕ) (name : List ℕ) (s : ℕ)
+    → Going app values start readers left outputs place number → 0 < left → (p n : ℕ) → IsPassed app.items readers p n → WaitsAt app.items readers p n name s
+    → Going app values start (slice_set readers n (ran_reader s values (unwrap_or (slice_get readers n) first_reader))) (left - 1) (outputs ++ shown_output name s values ∷ []) p n
+one_more app values start readers left outputs place number name s g some p n passed waits =
     let state = state_of values readers in
-    let after = ran_reader body values (unwrap_or (slice_get readers n) first_reader) in
-    let at = reader_is app readers p n name body passed waits in
-    let run : Run = record { number = n; outcome = body_outcome body values } in
-    let run_same : run_of n (run_reader app n state) ≡ run = ap (λ o. let r : Run = record { number = n; outcome = o } in r) (outcome_is app values readers n name body at) in
-    let state_same = run_is app values readers n name body at (waits_within readers n waits.waits) in
-    let told_same : batch_output app run ≡ shown_output name body values = ap (λ i. let o : BatchOutput = record { name = name_at i; plot = false; outcome = body_outcome body values } in o) at in
+    let after = ran_reader s values (unwrap_or (slice_get readers n) first_reader) in
+    let at = reader_is app readers p n name s passed waits in
+    let run : Run = record { number = n; outcome = shown_outcome s values } in
+    let run_same : run_of n (run_reader app n state) ≡ run = ap (λ o. let r : Run = record { number = n; outcome = o } in r) (outcome_is app values readers n name s at) in
+    let state_same = run_is app values readers n name s at (waits_within readers n waits.waits) in
+    let told_same : batch_output app run ≡ shown_output name s values = ap (λ i. let o : BatchOutput = record { name = name_at i; plot = false; outcome = shown_outcome s values } in o) at in
     record {
       passed = passed_with app.items readers p n after passed;
       runs = g.runs ++ run ∷ [];
       told = batch_outputs-append app g.runs run ∙ ap (λ l. l ++ batch_output app run ∷ []) g.told ∙ ap (λ o. outputs ++ o ∷ []) told_same;
       rest = ap (λ s. flush_from app (left - 1) s (g.runs ++ run ∷ [])) (sym state_same) ∙ ap (λ r. flush_from app (left - 1) (with_last n (run_reader app n state)) (g.runs ++ r ∷ [])) (sym run_same)
-          ∙ sym (flush_more app left n state g.runs some (next_is app values readers p n name body passed waits)) ∙ g.rest;
+          ∙ sym (flush_more app left n state g.runs some (next_is app values readers p n name s passed waits)) ∙ g.rest;
     }
 
 -- ---- the same, of lists that are equal to those
@@ -180,11 +179,11 @@ passed_of_slices items items' readers readers' p n e f h =
     let over_readers : List ReaderState → Type 0 = λ r. IsPassed items' r p n in
     subst over_items e (subst over_readers f h)
 
-pub waits_of_slices : (items items' : List Node) (readers readers' : List ReaderState) (p n : ℕ) (name : List ℕ) (body : Term) → items' ≡ items → readers' ≡ readers → WaitsAt items' readers' p n name body
-    → WaitsAt items readers p n name body
-waits_of_slices items items' readers readers' p n name body e f h =
-    let over_items : List Node → Type 0 = λ i. WaitsAt i readers p n name body in
-    let over_readers : List ReaderState → Type 0 = λ r. WaitsAt items' r p n name body in
+pub waits_of_slices : (items items' : List Node) (readers readers' : List ReaderState) (p n : ℕ) (name : List ℕ) (s : ℕ) → items' ≡ items → readers' ≡ readers → WaitsAt items' readers' p n name s
+    → WaitsAt items readers p n name s
+waits_of_slices items items' readers readers' p n name s e f h =
+    let over_items : List Node → Type 0 = λ i. WaitsAt i readers p n name s in
+    let over_readers : List ReaderState → Type 0 = λ r. WaitsAt items' r p n name s in
     subst over_items e (subst over_readers f h)
 
 pub going_with : (app : Shape) (values : List SourceValue) (start readers readers' : List ReaderState) (left : ℕ) (outputs outputs' : List BatchOutput) (place number : ℕ) → readers' ≡ readers → outputs' ≡ outputs

@@ -1,4 +1,5 @@
 pub mod Sought
+pub mod Building
 pub mod Replaced
 pub mod Passing
 pub mod Going

@@ -2,13 +2,13 @@
 use Rattle.std.proofs.Common.{◌≡◌, ℕ, zero, suc, ◌+◌, ◌<◌, ◌≤◌, Bool, true, false, List, [], ◌∷◌, ◌++◌, length, take, drop, filter, map, Option, Some, None, refl, sym, ap, ◌∙◌, arith, add-one, add-zero, append-nil, length-append, get_or}
 use Rattle.std.specs.Prelude.{slice_get, if◌then◌else◌}
 use Rattle.std.proofs.lemmas.List.Elements.{filter-append}
-use Rattle.app_tree.specs.Tree.{Node, input, text, Tree}
-use Rattle.rx_value.specs.declared.value.Value.{Value}
+use Rattle.app_tree.specs.Tree.{Node, text}
 use Rattle.app_tree.specs.declared.item.Item.{Item}
 use Rattle.app_tree.specs.View.{node_of}
 use Rattle.app_tree.specs.Numbering.{is_reader}
 use Rattle.session_model.specs.declared.state.ReaderState.{ReaderState}
 use Rattle.session_model.specs.Flush.{is_waiting, waiting_from}
+use Rattle.flush_cycle.specs.Built.{plain_shown}
 use Rattle.flush_cycle.specs.Passed.{waits_at, IsPassed}
 
 -- ---- lists
@@ -60,22 +60,22 @@ waiting-take k (i ∷ is) [] = refl
 waiting-take k (i ∷ is) (r ∷ rs) = ap (λ o. if is_waiting i r then Some k else o) (waiting-take (suc k) is rs)
 
 -- the reader behind those that don't wait doesn't either
-pub waiting-past : (k : ℕ) (is : List Node) (name : List ℕ) (body : Tree) (rs : List ReaderState) → waiting_from k is rs ≡ None → waits_at rs (length is) ≡ false
-    → waiting_from k (is ++ text name body ∷ []) rs ≡ None
-waiting-past k [] name body [] e h = refl
-waiting-past k [] name body (r ∷ rs) e h = go_behind (is_waiting (text name body) r) k None h
-waiting-past k (i ∷ is) name body [] e h = refl
-waiting-past k (i ∷ is) name body (r ∷ rs) e h =
-    go_behind (is_waiting i r) k _ (none_here (is_waiting i r) k _ e) ∙ waiting-past (suc k) is name body rs (none_behind (is_waiting i r) k _ e) h
+pub waiting-past : (k : ℕ) (is : List Node) (name : List ℕ) (s : ℕ) (rs : List ReaderState) → waiting_from k is rs ≡ None → waits_at rs (length is) ≡ false
+    → waiting_from k (is ++ text name (plain_shown s) ∷ []) rs ≡ None
+waiting-past k [] name s [] e h = refl
+waiting-past k [] name s (r ∷ rs) e h = go_behind (is_waiting (text name (plain_shown s)) r) k None h
+waiting-past k (i ∷ is) name s [] e h = refl
+waiting-past k (i ∷ is) name s (r ∷ rs) e h =
+    go_behind (is_waiting i r) k _ (none_here (is_waiting i r) k _ e) ∙ waiting-past (suc k) is name s rs (none_behind (is_waiting i r) k _ e) h
 
 -- the reader behind those that don't wait is the first that waits
-pub waiting-found : (k : ℕ) (is : List Node) (name : List ℕ) (body : Tree) (later : List Node) (rs : List ReaderState) → waiting_from k is rs ≡ None → waits_at rs (length is) ≡ true
-    → waiting_from k (is ++ text name body ∷ later) rs ≡ Some (k + length is)
-waiting-found k [] name body later [] e h = cc
-waiting-found k [] name body later (r ∷ rs) e h = stop_here (is_waiting (text name body) r) k _ h ∙ ap Some (sym (add-zero k))
-waiting-found k (i ∷ is) name body later [] e h = cc
-waiting-found k (i ∷ is) name body later (r ∷ rs) e h =
-    go_behind (is_waiting i r) k _ (none_here (is_waiting i r) k _ e) ∙ waiting-found (suc k) is name body later rs (none_behind (is_waiting i r) k _ e) h ∙ ap Some (omega arith)
+pub waiting-found : (k : ℕ) (is : List Node) (name : List ℕ) (s : ℕ) (later : List Node) (rs : List ReaderState) → waiting_from k is rs ≡ None → waits_at rs (length is) ≡ true
+    → waiting_from k (is ++ text name (plain_shown s) ∷ later) rs ≡ Some (k + length is)
+waiting-found k [] name s later [] e h = cc
+waiting-found k [] name s later (r ∷ rs) e h = stop_here (is_waiting (text name (plain_shown s)) r) k _ h ∙ ap Some (sym (add-zero k))
+waiting-found k (i ∷ is) name s later [] e h = cc
+waiting-found k (i ∷ is) name s later (r ∷ rs) e h =
+    go_behind (is_waiting i r) k _ (none_here (is_waiting i r) k _ e) ∙ waiting-found (suc k) is name s later rs (none_behind (is_waiting i r) k _ e) h ∙ ap Some (omega arith)
 
 -- ---- one more item
 
@@ -88,29 +88,31 @@ pub passed_all : (items : List Node) (readers : List ReaderState) (place number 
 passed_all items readers place number h end =
     ap (λ l. waiting_from 0 (filter is_reader l) readers) (sym (take_past place items end)) ∙ none_before items readers place number h
 
-pub passed_input : (items : List Node) (readers : List ReaderState) (place number : ℕ) (name : List ℕ) (start : Value) → IsPassed items readers place number → slice_get items place ≡ Some (input name start)
+-- an item that is no reader
+pub passed_other : (items : List Node) (readers : List ReaderState) (place number : ℕ) (i : Node) → IsPassed items readers place number → slice_get items place ≡ Some i → is_reader i ≡ false
     → IsPassed items readers (place + 1) number
-passed_input items readers place number name start h e =
+passed_other items readers place number i h e unread =
     let more : filter is_reader (take (place + 1) items) ≡ filter is_reader (take place items) =
-    ap (λ n. filter is_reader (take n items)) (add-one place) ∙ ap (filter is_reader) (take_one items place _ e) ∙ filter-append is_reader (take place items) (input name start ∷ []) ∙ append-nil (filter is_reader (take place items)) in
+    ap (λ n. filter is_reader (take n items)) (add-one place) ∙ ap (filter is_reader) (take_one items place _ e) ∙ filter-append is_reader (take place items) (i ∷ [])
+    ∙ ap (λ b. filter is_reader (take place items) ++ (if b then i ∷ [] else [])) unread ∙ append-nil (filter is_reader (take place items)) in
     record {
       counted = ap length more ∙ h.counted;
       within = omega (arith, h.within);
       none_waits = ap (λ l. waiting_from 0 l (take number readers)) more ∙ h.none_waits;
     }
 
-pub passed_output : (items : List Node) (readers : List ReaderState) (place number : ℕ) (name : List ℕ) (body : Tree) → IsPassed items readers place number → slice_get items place ≡ Some (text name body)
+pub passed_output : (items : List Node) (readers : List ReaderState) (place number : ℕ) (name : List ℕ) (s : ℕ) → IsPassed items readers place number → slice_get items place ≡ Some (text name (plain_shown s))
     → waits_at readers number ≡ false → IsPassed items readers (place + 1) (number + 1)
-passed_output items readers place number name body h e idle =
+passed_output items readers place number name s h e idle =
     let before = filter is_reader (take place items) in
-    let more : filter is_reader (take (place + 1) items) ≡ before ++ text name body ∷ [] =
-    ap (λ n. filter is_reader (take n items)) (add-one place) ∙ ap (filter is_reader) (take_one items place _ e) ∙ filter-append is_reader (take place items) (text name body ∷ []) in
-    let counted : length (before ++ text name body ∷ []) ≡ number + 1 = length-append before (text name body ∷ []) ∙ ap (λ n. n + 1) h.counted in
-    let none : waiting_from 0 (before ++ text name body ∷ []) readers ≡ None =
-    waiting-past 0 before name body readers (none_before items readers place number h) (ap (waits_at readers) h.counted ∙ idle) in
+    let more : filter is_reader (take (place + 1) items) ≡ before ++ text name (plain_shown s) ∷ [] =
+    ap (λ n. filter is_reader (take n items)) (add-one place) ∙ ap (filter is_reader) (take_one items place _ e) ∙ filter-append is_reader (take place items) (text name (plain_shown s) ∷ []) in
+    let counted : length (before ++ text name (plain_shown s) ∷ []) ≡ number + 1 = length-append before (text name (plain_shown s) ∷ []) ∙ ap (λ n. n + 1) h.counted in
+    let none : waiting_from 0 (before ++ text name (plain_shown s) ∷ []) readers ≡ None =
+    waiting-past 0 before name s readers (none_before items readers place number h) (ap (waits_at readers) h.counted ∙ idle) in
     record {
       counted = ap length more ∙ counted;
       within = omega (arith, h.within);
-      none_waits = ap (λ l. waiting_from 0 l (take (number + 1) readers)) more ∙ ap (λ n. waiting_from 0 (before ++ text name body ∷ []) (take n readers)) (sym counted)
-          ∙ waiting-take 0 (before ++ text name body ∷ []) readers ∙ none;
+      none_waits = ap (λ l. waiting_from 0 l (take (number + 1) readers)) more ∙ ap (λ n. waiting_from 0 (before ++ text name (plain_shown s) ∷ []) (take n readers)) (sym counted)
+          ∙ waiting-take 0 (before ++ text name (plain_shown s) ∷ []) readers ∙ none;
     }

@@ -1,4 +1,5 @@
 pub mod State
+pub mod Built
 pub mod Passed
 pub mod Sent
 pub mod Flushing

@@ -1,41 +1,32 @@
 -- What one run makes of a reader, and what a flush has come to, in the Flusher's own lists.
-use Rattle.std.specs.Prelude.{◌≡◌, ℕ, ◌≤◌, Bool, true, false, not, ◌&&◌, List, [], filter, take, length, Option, Some, None, slice_get, if◌then◌else◌}
+use Rattle.std.specs.Prelude.{◌≡◌, ℕ, ◌≤◌, Bool, true, false, not, ◌&&◌, List, [], ◌∷◌, filter, take, length, Option, Some, None, slice_get, if◌then◌else◌}
 use Rattle.rx_value.specs.declared.outcome.Outcome.{Outcome}
 use Rattle.rx_value.specs.declared.source.SourceValue.{SourceValue}
-use Rattle.app_tree.specs.declared.term.Term.{Term}
 use Rattle.app_tree.specs.Tree.{Node, text, Shape}
-use Rattle.app_tree.specs.View.{tree_of}
 use Rattle.app_tree.specs.Numbering.{is_reader}
-use Rattle.app_tree.specs.Current.{told}
-use Rattle.app_tree.specs.Evaluate.{Answers, evaluate}
-use Rattle.app_tree.specs.Fresh.{sources_asked}
+use Rattle.app_tree.specs.Current.{value_at, plain_outcome}
 use Rattle.shiny_json.specs.declared.batch.BatchOutput.{BatchOutput}
 use Rattle.session_model.specs.declared.state.ReaderState.{ReaderState}
 use Rattle.session_model.specs.State.{SessionState, is_alive}
 use Rattle.session_model.specs.Flush.{waiting_from, FlushEnd, done, budget_spent, Flushed}
 use Rattle.session_model.specs.Texts.{batch_outputs}
+use Rattle.flush_cycle.specs.Built.{plain_shown}
 
--- no term of today has an isolated site
-abbrev pub plain_answers : List SourceValue → Answers
-plain_answers values = record { read = told values; site = λ site. None }
+-- what an output comes to that shows the input of source number s
+abbrev pub shown_outcome : ℕ → List SourceValue → Outcome
+shown_outcome s values = plain_outcome (value_at values s)
 
-abbrev pub body_outcome : Term → List SourceValue → Outcome
-body_outcome body values = (evaluate (tree_of body) (plain_answers values) []).outcome
-
-abbrev pub body_sources : Term → List SourceValue → List ℕ
-body_sources body values = sources_asked (evaluate (tree_of body) (plain_answers values) []).asked
-
-abbrev pub ran_reader : Term → List SourceValue → ReaderState → ReaderState
-ran_reader body values r = record {
-  dependencies = Some (record { sources = body_sources body values; changed = false });
+abbrev pub ran_reader : ℕ → List SourceValue → ReaderState → ReaderState
+ran_reader s values r = record {
+  dependencies = Some (record { sources = s ∷ []; changed = false });
   isolated = [];
   shown = r.shown;
-  last = Some (body_outcome body values);
+  last = Some (shown_outcome s values);
 }
 
 -- what the values text tells of a run
-abbrev pub shown_output : List ℕ → Term → List SourceValue → BatchOutput
-shown_output name body values = record { name = name; plot = false; outcome = body_outcome body values }
+abbrev pub shown_output : List ℕ → ℕ → List SourceValue → BatchOutput
+shown_output name s values = record { name = name; plot = false; outcome = shown_outcome s values }
 
 -- ---- where a flush stands
 
@@ -53,9 +44,9 @@ pub record IsPassed (items : List Node) (readers : List ReaderState) (place numb
   pub within : number ≤ place
   pub none_waits : waiting_from 0 (filter is_reader (take place items)) (take number readers) ≡ None
 
--- at this place stands an output of this name and term, which waits
-pub record WaitsAt (items : List Node) (readers : List ReaderState) (place number : ℕ) (name : List ℕ) (body : Term) : Type 0 where
-  pub item : slice_get items place ≡ Some (text name (tree_of body))
+-- at this place stands an output of this name that shows the input of source number s, and it waits
+pub record WaitsAt (items : List Node) (readers : List ReaderState) (place number : ℕ) (name : List ℕ) (s : ℕ) : Type 0 where
+  pub item : slice_get items place ≡ Some (text name (plain_shown s))
   pub waits : waits_at readers number ≡ true
 
 -- ---- what a flush has come to

@@ -3,6 +3,7 @@ ghost use Rattle.app_tree.specs.View.{shape_of};
 ghost use Rattle.session_model.specs.Alone.{applied};
 ghost use Rattle.session_model.specs.Texts.{first_texts, later_texts};
 ghost use Rattle.flush_cycle.specs.State.{state_of};
+ghost use Rattle.flush_cycle.specs.Built.{IsBuilt};
 ghost use Rattle.flush_cycle.specs.Passed.{passed_of, end_of};
 ghost use Rattle.flush_cycle.specs.Sent.{Sends};
 
@@ -22,6 +23,7 @@ fn apply_and_flush(
     readers: &mut Vec<ReaderState>,
     pairs: &[Pair],
 ) -> Result<Pass, Memory>
+    requires { IsBuilt (shape_of app.now) }
     ensures { IfOk result (λ p. passed_of (shape_of app.now) (applied (shape_of app.now) pairs.now (state_of values.old.items readers.old.items)) ≡ record { state = state_of values.new.items readers.new.items; outputs = p.outputs; end = end_of p.spent }) }
 {
     apply_pairs(alloc, app, values, readers, pairs)?;
@@ -37,6 +39,7 @@ pub fn first_event(
     label: &RxText,
     pairs: &[Pair],
 ) -> Result<Sent, Memory>
+    requires { IsBuilt (shape_of app.now) }
     ensures { IfOk result (λ sent. let f = applied (shape_of app.now) pairs.now (state_of values.old.items readers.old.items) in Sends (first_texts (shape_of app.now) label.now f) f (state_of values.new.items readers.new.items) sent) }
 {
     let pass = apply_and_flush(alloc, app, values, readers, pairs)?;
@@ -53,6 +56,7 @@ pub fn later_event(
     readers: &mut Vec<ReaderState>,
     pairs: &[Pair],
 ) -> Result<Sent, Memory>
+    requires { IsBuilt (shape_of app.now) }
     ensures { IfOk result (λ sent. let f = applied (shape_of app.now) pairs.now (state_of values.old.items readers.old.items) in Sends (later_texts (shape_of app.now) f) f (state_of values.new.items readers.new.items) sent) }
 {
     let pass = apply_and_flush(alloc, app, values, readers, pairs)?;

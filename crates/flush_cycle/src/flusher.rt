@@ -3,14 +3,16 @@ ghost use Rattle.app_tree.specs.View.{shape_of};
 ghost use Rattle.session_model.specs.State.{first_state};
 ghost use Rattle.session_model.specs.Alone.{applied};
 ghost use Rattle.session_model.specs.Texts.{first_texts, later_texts};
+ghost use Rattle.flush_cycle.specs.Built.{IsBuilt};
 ghost use Rattle.flush_cycle.specs.Flushing.{FlushGives, flushed_of, stage_after};
 
 use crate::event::{first_event, later_event};
 use crate::flushed::Flushed;
 use crate::stage::Stage;
-use crate::start::{first_readers, starting_values};
+use crate::start::first_readers;
 use crate::texts::Sent;
 use app_tree::App;
+use rx_source::starting_values;
 use rx_value::{Memory, RxText, SourceValue};
 use session_model::ReaderState;
 use shiny_json::ClientData;
@@ -28,10 +30,19 @@ pub struct Flusher {
 }
 
 impl Model for Flusher {
+    ghost use Rattle.std.specs.Coded.{codes};
+    ghost use Rattle.app_tree.specs.contracts.term.Term as term;
+    ghost use Rattle.app_tree.specs.contracts.statement.Statement as statement;
     ghost use Rattle.flush_cycle.specs.Flushing.{Flushing};
     ghost use Rattle.flush_cycle.specs.State.{state_of};
+    ghost use Rattle.flush_cycle.specs.Built.{IsBuilt};
+    ghost use Rattle.app_tree.specs.View.{shape_of};
 
     ghost Value = { Flushing };
+
+    ghost coded = { Prim.hlevel (codes, term.the_row.coded, statement.the_row.coded) };
+
+    ghost invariant = { λ f. IsBuilt (shape_of f.app.value) };
 
     ghost view = { λ f. record { app = f.app.value; state = state_of f.values.items f.readers.items; stage = f.stage } };
 }
@@ -64,6 +75,7 @@ fn stage_after(flushed: &Flushed) -> Stage
 impl Flusher {
     /// A session of this app before its first event.
     pub fn new(alloc: Global, app: Arc<App>) -> Result<Flusher, Memory>
+        requires { IsBuilt (shape_of app.value) }
         ensures app { IfOk result (λ f. f.app ≡ app.value) }
         ensures state { IfOk result (λ f. f.state ≡ first_state (shape_of app.value)) }
         ensures stage { IfOk result (λ f. f.stage ≡ Stage.New) }

@@ -3,7 +3,8 @@ ghost use Rattle.app_tree.specs.View.{shape_of};
 ghost use Rattle.session_model.specs.State.{first_reader};
 ghost use Rattle.session_model.specs.Flush.{flush};
 ghost use Rattle.flush_cycle.specs.State.{state_of};
-ghost use Rattle.flush_cycle.specs.Passed.{body_outcome, ran_reader, end_of, passed_of, shown_output};
+ghost use Rattle.flush_cycle.specs.Built.{IsBuilt};
+ghost use Rattle.flush_cycle.specs.Passed.{ran_reader, end_of, passed_of, shown_output};
 
 use crate::running::run;
 use crate::waiting::{Waiting, next_waiting};
@@ -29,11 +30,11 @@ fn run_waiting(
     readers: &mut Vec<ReaderState>,
 ) -> Result<BatchOutput, Memory>
     requires { waiting.now.number < length readers.old.items }
-    ensures ran { OnOk result (readers.new.items ≡ slice_set readers.old.items waiting.now.number (ran_reader waiting.now.body.now values.now (unwrap_or (slice_get readers.old.items waiting.now.number) first_reader))) }
-    ensures output { IfOk result (λ o. o ≡ shown_output waiting.now.name.now waiting.now.body.now values.now) }
+    ensures ran { OnOk result (readers.new.items ≡ slice_set readers.old.items waiting.now.number (ran_reader waiting.now.source values.now (unwrap_or (slice_get readers.old.items waiting.now.number) first_reader))) }
+    ensures output { IfOk result (λ o. o ≡ shown_output waiting.now.name.now waiting.now.source values.now) }
 {
     let reader = &mut readers[waiting.number];
-    let outcome = run(alloc, waiting.body, values, reader)?;
+    let outcome = run(alloc, waiting.source, values, reader)?;
     let name = waiting.name.copy(alloc)?;
     Ok(BatchOutput {
         name,
@@ -49,6 +50,7 @@ pub fn flush(
     values: &[SourceValue],
     readers: &mut Vec<ReaderState>,
 ) -> Result<Pass, Memory>
+    requires { IsBuilt (shape_of app.now) }
     ensures { IfOk result (λ p. passed_of (shape_of app.now) (flush (shape_of app.now) (state_of values.now readers.old.items)) ≡ record { state = state_of values.now readers.new.items; outputs = p.outputs; end = end_of p.spent }) }
 {
     let items = app.items().as_slice();

@@ -12,8 +12,8 @@ pub fn input_number(items: &[Item], name: &str) -> Option<usize>
 {
     let mut number = 0;
     for item in items {
-        if let Item::Input { name: other, .. } = item {
-            if name == other.as_str() {
+        if item.is_input() {
+            if name == item.name().as_str() {
                 return Some(number);
             }
             number += 1;
@@ -27,10 +27,10 @@ fn output_number(items: &[Item], name: &[u8]) -> Option<usize>
 {
     let mut number = 0;
     for item in items {
-        if let Item::Text { name: other, .. } = item {
-            if name == other.as_str().as_bytes() {
-                return Some(number);
-            }
+        if item.is_output() && name == item.name().as_str().as_bytes() {
+            return Some(number);
+        }
+        if item.is_reader() {
             number += 1;
         }
     }

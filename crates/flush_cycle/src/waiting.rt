@@ -4,9 +4,11 @@ ghost use Rattle.app_tree.specs.Numbering.{is_reader};
 ghost use Rattle.session_model.specs.State.{is_alive};
 ghost use Rattle.session_model.specs.Flush.{waiting_from};
 ghost use Rattle.std.specs.Prelude.{filter};
+ghost use Rattle.flush_cycle.specs.Built.{first_unbuilt, input_of_output};
 ghost use Rattle.flush_cycle.specs.Passed.{waits_at, IsPassed, WaitsAt};
 
-use app_tree::{Item, Term};
+use crate::forms::shown_input;
+use app_tree::Item;
 use rx_value::RxText;
 use session_model::ReaderState;
 
@@ -18,7 +20,8 @@ pub struct Waiting<'a> {
     /// Its reader number.
     pub number: usize,
     pub name: &'a RxText,
-    pub body: &'a Term,
+    /// The source number of the input that it shows.
+    pub source: u32,
 }
 
 fn is_alive(reader: &ReaderState) -> bool
@@ -39,6 +42,15 @@ fn waits_at(readers: &[ReaderState], number: usize) -> bool
     }
 }
 
+fn input_of_output(item: &Item) -> Option<u32>
+    ensures { result ≡ input_of_output (node_of item.now) }
+{
+    match item {
+        Item::Text { output, .. } => shown_input(output),
+        _ => None,
+    }
+}
+
 /// The first output that waits, of those that stand at `place` or behind it, the first of which has
 /// the reader number `number`.
 pub fn next_waiting<'a>(
@@ -47,21 +59,23 @@ pub fn next_waiting<'a>(
     place: usize,
     number: usize,
 ) -> Option<Waiting<'a>>
-    requires { IsPassed (map node_of items.now) readers.now place number }
+    requires built { first_unbuilt (map node_of items.now) ≡ None }
+    requires passed { IsPassed (map node_of items.now) readers.now place number }
     ensures passed { IfSome result (λ w. IsPassed (map node_of items.now) readers.now w.place w.number) }
-    ensures waits { IfSome result (λ w. WaitsAt (map node_of items.now) readers.now w.place w.number w.name.now w.body.now) }
+    ensures waits { IfSome result (λ w. WaitsAt (map node_of items.now) readers.now w.place w.number w.name.now w.source) }
     ensures none { IfNone result (waiting_from 0 (filter is_reader (map node_of items.now)) readers.now ≡ None) }
 {
     let mut place = place;
     let mut number = number;
     while place < items.len() {
-        if let Item::Text { name, body } = &items[place] {
+        let item = &items[place];
+        if let Some(source) = input_of_output(item) {
             if waits_at(readers, number) {
                 return Some(Waiting {
                     place,
                     number,
-                    name,
-                    body,
+                    name: item.name(),
+                    source,
                 });
             }
             number += 1;

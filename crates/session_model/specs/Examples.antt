@@ -1,15 +1,18 @@
 -- Worked examples: what is sent in answer to client messages, and what the replay of a transcript writes.
-use Rattle.std.specs.Prelude.{◌≡◌, ℕ, pos, List, [], ◌∷◌, ◌++◌, map, codes}
+use Rattle.std.specs.Prelude.{◌≡◌, ℕ, pos, false, List, [], ◌∷◌, ◌++◌, map, codes}
 use Rattle.rx_value.specs.declared.value.Value.TheVariants.{Int}
 use Rattle.app_tree.specs.declared.term.Read.TheVariants.{Input}
-use Rattle.app_tree.specs.Tree.{get, input, text, Shape}
+use Rattle.app_tree.specs.Tree.{get, no_trees, Shown, input, text, Shape}
 use Rattle.session_model.specs.declared.event.Event.TheVariants.{Text}
 use Rattle.session_model.specs.Alone.{answers}
 use Rattle.session_model.specs.Transcript.{replayed, done, bad_line}
 
+abbrev pub shows_n : Shown
+shows_n = record { priority = pos 0; while_hidden = false; keys = no_trees; body = get (Input 0) }
+
 -- an output that shows an input
 abbrev pub counter : Shape
-counter = record { budget = 1000; items = input (codes "n") (Int (pos 1)) ∷ text (codes "o") (get (Input 0)) ∷ [] }
+counter = record { budget = 1000; items = input (codes "n") (Int (pos 1)) ∷ text (codes "o") shows_n ∷ [] }
 
 abbrev pub empty_app : Shape
 empty_app = record { budget = 1000; items = [] }

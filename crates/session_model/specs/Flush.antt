@@ -1,23 +1,30 @@
 -- The flush: which readers wait, and their runs until none waits or the budget is spent.
-use Rattle.std.specs.Prelude.{ℕ, zero, suc, Bool, false, not, ◌&&◌, List, [], ◌∷◌, ◌++◌, Option, Some, None, if◌then◌else◌}
+use Rattle.std.specs.Prelude.{ℕ, zero, suc, Bool, true, false, not, ◌&&◌, ◌||◌, List, [], ◌∷◌, ◌++◌, Option, Some, None, if◌then◌else◌}
 use Rattle.rx_value.specs.declared.outcome.Outcome.{Outcome}
-use Rattle.app_tree.specs.Tree.{Node, input, text, Shape}
+use Rattle.app_tree.specs.Tree.{Node, text, plot, observe, on, Shape}
 use Rattle.app_tree.specs.Numbering.{readers}
 use Rattle.session_model.specs.declared.state.ReaderState.{ReaderState}
 use Rattle.session_model.specs.State.{SessionState, reader_state, is_alive}
 use Rattle.session_model.specs.Run.{Ran, run_reader, with_reader}
 
--- an output waits where it is shown and not alive
+-- observers run by themselves, and outputs where they are shown or run while they are hidden; nobody waits for anything else
+abbrev pub is_wanted : Node → ReaderState → Bool
+is_wanted (text name output) r = output.while_hidden || r.shown
+is_wanted (plot name output) r = output.while_hidden || r.shown
+is_wanted (observe name priority block) r = true
+is_wanted (on name priority flags e block) r = true
+is_wanted _ r = false
+
+-- such a reader waits where it is not alive
 abbrev pub is_waiting : Node → ReaderState → Bool
-is_waiting (text name body) r = r.shown && not (is_alive r)
-is_waiting (input name start) r = false
+is_waiting i r = is_wanted i r && not (is_alive r)
 
 -- the first that waits, where the first of these readers has number n
 abbrev pub waiting_from : ℕ → List Node → List ReaderState → Option ℕ
 waiting_from n (i ∷ more) (r ∷ rs) = if is_waiting i r then Some n else waiting_from (suc n) more rs
 waiting_from n _ _ = None
 
--- of the readers that wait, the one of least number
+-- of the readers that wait, the one of least number; no app of today has priorities
 abbrev pub next_waiting : Shape → SessionState → Option ℕ
 next_waiting app state = waiting_from 0 (readers app) state.readers
 

@@ -1,22 +1,11 @@
 -- The state of a session.
 use Rattle.std.specs.Prelude.{ℕ, Bool, false, not, List, [], ◌∷◌, map, Option, None, is_some, slice_get, option_map, unwrap_or}
-use Rattle.rx_value.specs.declared.value.Value.{Value}
 use Rattle.app_tree.specs.Tree.{Node, Shape}
 use Rattle.app_tree.specs.Numbering.{readers, starting_values}
 use Rattle.app_tree.specs.Current.{CurrentValues}
 use Rattle.app_tree.specs.Fresh.{IsolatedOutcomes}
+use Rattle.task_board.specs.Board.{TaskBoard}
 use Rattle.session_model.specs.declared.state.ReaderState.{ReaderState}
-
--- a started invocation of a task
-pub record Invocation : Type 0 where
-  pub number : ℕ
-  pub args : List Value
-
--- a task: the number of its last invocation, the one that runs, and the arguments that wait, oldest first
-pub record TaskBoard : Type 0 where
-  pub last_number : ℕ
-  pub running : Option Invocation
-  pub queued : List (List Value)
 
 -- the sources by number, the readers by number, the tasks by number
 pub record SessionState : Type 0 where

@@ -1,52 +1,121 @@
--- What is taken and meets no fault is replayed to its end, or memory is wanting.
-use Rattle.std.proofs.Common.{◌≡◌, ◌≢◌, ℕ, List, Option, Some, None, sym, ap, ◌∙◌, subst}
-use Rattle.std.specs.Prelude.{String}
+-- What is taken and meets no fault is done, or memory is wanting.
+use Rattle.std.proofs.Common.{◌≡◌, ◌≢◌, ℕ, List, Option, Some, None, IfSome, Result, Ok, Err, refl, sym, ap, ◌∙◌, subst, inl, inr}
+use Rattle.std.specs.Prelude.{◌⊎◌, ⊤, String}
 use Rattle.std.specs.declared.alloc.Global.{Global}
 use Rattle.rx_ports.specs.Faults.{Rose}
 use Rattle.rx_ports.specs.Files.{content_of}
 use Rattle.rx_ports.specs.declared.files.NamedFile.{NamedFile}
 use Rattle.app_tree.specs.Tree.{Shape}
-use Rattle.session_model.specs.Transcript.{done, replayed}
+use Rattle.app_check.specs.declared.error.LoadError.{LoadError}
+use Rattle.app_check.specs.Load.{loaded}
+use Rattle.app_printer.specs.Canonical.{canonical_text}
+use Rattle.flush_cycle.specs.Built.{first_unbuilt}
+use Rattle.session_model.specs.Transcript.{ReplayEnd, done, bad_line, no_session, replayed}
+use Rattle.shiny_main.specs.declared.words.Command.{Command}
+use Rattle.shiny_main.specs.declared.words.Command.TheVariants as command
 use Rattle.shiny_main.specs.declared.status.Status.{Status}
 use Rattle.shiny_main.specs.declared.status.Status.TheVariants as status
-use Rattle.shiny_main.specs.AppForm.{app_of}
-use Rattle.shiny_main.specs.Top.{Writes, IsRead, FileGives, WordsGive, RunGives, FileFaults, InputFaults, OutputFaults, IsTaken, IsDoneOrMemory}
+use Rattle.shiny_main.specs.declared.ended.Ended.{Ended}
+use Rattle.shiny_main.specs.declared.ended.Ended.TheVariants as ended
+use Rattle.shiny_main.specs.Ends.{status_of}
+use Rattle.shiny_main.specs.Words.{words_of}
+use Rattle.shiny_main.specs.Notes.{note_text, IsNoted}
+use Rattle.shiny_main.specs.Commands.{Ports, Says, count_line, Writes, ReplayedGives, RunsBuilt, CommandGives, AppGives}
+use Rattle.shiny_main.specs.Top.{IsRead, ReadGives, FileGives, WordsGive, RunGives, FileFaults, InputFaults, OutputFaults, IsReplayable, IsReady, IsTaken, IsDoneOrMemory}
 
-no_line_refused : (app : Shape) (bytes : List ℕ) (held after : Option (List ℕ)) → (replayed app bytes).end ≡ done → ¬ Writes app (Some bytes) held after (λ end. end ≢ done)
-no_line_refused app bytes held after e w = w.ends (ap (λ r. r.end) (sym w.is) ∙ e)
+-- the ends that what is taken may have
+abbrev IsDoneOrFault : Ended → Type 0
+IsDoneOrFault ended.Done = ⊤
+IsDoneOrFault ended.FileFault = ⊤
+IsDoneOrFault ended.ReadFault = ⊤
+IsDoneOrFault ended.WriteFault = ⊤
+IsDoneOrFault ended.Memory = ⊤
+IsDoneOrFault _ = ⊥
 
-read_app : (files : List NamedFile) (name content bytes : List ℕ) (app : Shape) → content_of files name ≡ Some content → app_of content ≡ Some app → IsRead (Some files) name bytes → app_of bytes ≡ Some app
+said_well : (text : List ℕ) (p : Ports) (e : Ended) → Says text p e → IsDoneOrFault e
+said_well text p ended.Done g = tt
+said_well text p ended.WrongWords g = g.1
+said_well text p (ended.AppRefused why) g = g.1
+said_well text p ended.FileAbsent g = g.1
+said_well text p ended.FileFault g = tt
+said_well text p (ended.BadLine k) g = g.1
+said_well text p (ended.NoSession k) g = g.1
+said_well text p ended.ReadFault g = tt
+said_well text p ended.WriteFault g = tt
+said_well text p ended.Memory g = tt
+
+-- a transcript that is taken whole has no other end
+other_end : (app : Shape) (p : Ports) (ready : IsReplayable app p.left) (end : ReplayEnd) → end ≢ done → ¬ Writes app p end
+other_end app p ready end other w =
+    let is = subst (λ left. IfSome left (λ bytes. replayed app bytes ≡ record { output = w.output; end = end })) ready.comes w.is in
+    other (sym (ap (λ r. r.end) is) ∙ ready.whole)
+
+replayed_well : (app : Shape) (p : Ports) (e : Ended) → IsReplayable app p.left → ReplayedGives app p e → IsDoneOrFault e
+replayed_well app p ended.Done ready g = tt
+replayed_well app p ended.WrongWords ready g = g
+replayed_well app p (ended.AppRefused why) ready g = g
+replayed_well app p ended.FileAbsent ready g = g
+replayed_well app p ended.FileFault ready g = tt
+replayed_well app p (ended.BadLine k) ready g = other_end app p ready (bad_line k) (λ x. cc) g
+replayed_well app p (ended.NoSession k) ready g = other_end app p ready (no_session k) (λ x. cc) g
+replayed_well app p ended.ReadFault ready g = tt
+replayed_well app p ended.WriteFault ready g = tt
+replayed_well app p ended.Memory ready g = tt
+
+command_well : (c : Command) (app : Shape) (p : Ports) (e : Ended) → IsReady c app p.left → CommandGives c app p e → IsDoneOrFault e
+command_well command.Check app p e ready g = said_well (count_line app) p e g
+command_well command.Print app p e ready g = said_well (canonical_text app) p e g
+command_well command.Replay app p e ready g =
+    replayed_well app p e ready (subst (λ unbuilt. RunsBuilt unbuilt app p e) ready.built g)
+
+read_app : (files : List NamedFile) (name content bytes : List ℕ) (app : Shape) → content_of files name ≡ Some content → loaded content ≡ Ok app → IsRead (Some files) name bytes → loaded bytes ≡ Ok app
 read_app files name content bytes app found stands (content', found', same) =
     let one : Some content' ≡ Some content = sym found' ∙ found in
     cc
 
-some_app : (app app' : Shape) (o : Option Shape) → o ≡ Some app → o ≡ Some app' → app' ≡ app
-some_app app app' o e e' = let both : Some app' ≡ Some app = sym e' ∙ e in cc
+read_well : (c : Command) (files : List NamedFile) (name content : List ℕ) (app : Shape) (p : Ports) (e : Ended) → content_of files name ≡ Some content → loaded content ≡ Ok app → IsReady c app p.left
+    → ReadGives c name (Some files) p e → IsDoneOrFault e
+read_well c files name content app p e found stands ready g =
+    command_well c app p e ready (subst (λ r. AppGives c r p e) (read_app files name content g.bytes app found stands g.read) g.gives)
 
-is_some : (app : Shape) (o : Option Shape) → o ≡ Some app → ¬ (o ≡ None)
-is_some app o e e' = let both : Some app ≡ None = sym e ∙ e' in cc
+file_well : (c : Command) (files : List NamedFile) (name content : List ℕ) (app : Shape) (p : Ports) (e : Ended) → content_of files name ≡ Some content → loaded content ≡ Ok app → IsReady c app p.left
+    → FileGives c name (Some files) p e → IsDoneOrFault e
+file_well c files name content app p ended.Done found stands ready g = tt
+file_well c files name content app p ended.WrongWords found stands ready g = read_well c files name content app p ended.WrongWords found stands ready g
+file_well c files name content app p (ended.AppRefused why) found stands ready g = read_well c files name content app p (ended.AppRefused why) found stands ready g
+file_well c files name content app p ended.FileAbsent found stands ready g = let both : Some content ≡ None = sym found ∙ g.0 in absurd cc
+file_well c files name content app p ended.FileFault found stands ready g = tt
+file_well c files name content app p (ended.BadLine k) found stands ready g = read_well c files name content app p (ended.BadLine k) found stands ready g
+file_well c files name content app p (ended.NoSession k) found stands ready g = read_well c files name content app p (ended.NoSession k) found stands ready g
+file_well c files name content app p ended.ReadFault found stands ready g = tt
+file_well c files name content app p ended.WriteFault found stands ready g = tt
+file_well c files name content app p ended.Memory found stands ready g = tt
 
-file_completes : (files : List NamedFile) (name content bytes : List ℕ) (app : Shape) (left_after held after : Option (List ℕ)) (file file' read read' write write' : ℕ) (s : Status)
-    → content_of files name ≡ Some content → app_of content ≡ Some app → (replayed app bytes).end ≡ done
-    → FileGives name (Some files) (Some bytes) left_after held after s → FileFaults file file' s → InputFaults read read' s → OutputFaults write write' s
-    → ¬ Rose file file' → ¬ Rose read read' → ¬ Rose write write' → IsDoneOrMemory s
-file_completes files name content bytes app left_after held after file file' read read' write write' status.Done found stands whole g f r w nf nr nw = tt
-file_completes files name content bytes app left_after held after file file' read read' write write' status.Memory found stands whole g f r w nf nr nw = tt
-file_completes files name content bytes app left_after held after file file' read read' write write' status.WrongWords found stands whole g f r w nf nr nw = g
-file_completes files name content bytes app left_after held after file file' read read' write write' status.FileAbsent found stands whole g f r w nf nr nw = let both : Some content ≡ None = sym found ∙ g.0 in cc
-file_completes files name content bytes app left_after held after file file' read read' write write' status.FileFault found stands whole g f r w nf nr nw = nf f
-file_completes files name content bytes app left_after held after file file' read read' write write' status.ReadFault found stands whole g f r w nf nr nw = nr r
-file_completes files name content bytes app left_after held after file file' read read' write write' status.WriteFault found stands whole g f r w nf nr nw = nw w
-file_completes files name content bytes app left_after held after file file' read read' write write' status.AppRefused found stands whole (front, is, none) f r w nf nr nw = is_some app (app_of front) (read_app files name content front app found stands is) none.0
-file_completes files name content bytes app left_after held after file file' read read' write write' status.LineRefused found stands whole (front, is, (app', stands', given)) f r w nf nr nw =
-    let of_app : Shape → Type 0 = λ a. Writes a (Some bytes) held after (λ end. end ≢ done) in
-    no_line_refused app bytes held after whole (subst of_app (some_app app app' (app_of front) (read_app files name content front app found stands is) stands') given)
+no_fault : (file file' read read' write write' note note' : ℕ) (e : Ended) → IsDoneOrFault e → FileFaults file file' (status_of e) → InputFaults read read' (status_of e) → OutputFaults write write' note note' (status_of e)
+    → ¬ Rose file file' → ¬ Rose read read' → ¬ Rose write write' → ¬ Rose note note' → IsDoneOrMemory (status_of e)
+no_fault file file' read read' write write' note note' ended.Done i f r w nf nr nw nn = tt
+no_fault file file' read read' write write' note note' ended.WrongWords i f r w nf nr nw nn = i
+no_fault file file' read read' write write' note note' (ended.AppRefused why) i f r w nf nr nw nn = i
+no_fault file file' read read' write write' note note' ended.FileAbsent i f r w nf nr nw nn = i
+no_fault file file' read read' write write' note note' ended.FileFault i f r w nf nr nw nn = nf f
+no_fault file file' read read' write write' note note' (ended.BadLine k) i f r w nf nr nw nn = i
+no_fault file file' read read' write write' note note' (ended.NoSession k) i f r w nf nr nw nn = i
+no_fault file file' read read' write write' note note' ended.ReadFault i f r w nf nr nw nn = nr r
+no_fault file file' read read' write write' note note' ended.WriteFault i f r w nf nr nw nn = elim w as (λ _. IsDoneOrMemory status.WriteFault) [ inl rose ↦ nw rose | inr rose ↦ nn rose ]
+no_fault file file' read read' write write' note note' ended.Memory i f r w nf nr nw nn = tt
 
-pub completes : (words : List (String Global)) (told : Option (List NamedFile)) (left left_after held after : Option (List ℕ)) (file file' read read' write write' : ℕ) (s : Status)
-    → RunGives words told left left_after held after s → FileFaults file file' s → InputFaults read read' s → OutputFaults write write' s
-    → IsTaken words told left → ¬ Rose file file' → ¬ Rose read read' → ¬ Rose write write' → IsDoneOrMemory s
-completes words told left left_after held after file file' read read' write write' s g f r w taken =
-    let named = subst (λ n. WordsGive n told left left_after held after s) taken.named g in
-    let tells = subst (λ t. FileGives taken.name t left left_after held after s) taken.tells named in
-    let comes = subst (λ l. FileGives taken.name (Some taken.files) l left_after held after s) taken.comes tells in
-    file_completes taken.files taken.name taken.content taken.bytes taken.app left_after held after file file' read read' write write' s taken.found taken.stands taken.whole comes f r w
+pub completes : (words : List (String Global)) (told : Option (List NamedFile)) (p : Ports) (held_note held_note' : Option (List ℕ)) (file file' read read' write write' note note' : ℕ) (s : Status)
+    → RunGives words told p held_note held_note' s → FileFaults file file' s → InputFaults read read' s → OutputFaults write write' note note' s
+    → IsTaken words told p.left → ¬ Rose file file' → ¬ Rose read read' → ¬ Rose write write' → ¬ Rose note note' → IsDoneOrMemory s
+completes words told p held_note held_note' file file' read read' write write' note note' s g f r w taken nf nr nw nn =
+    let named = subst (λ x. WordsGive x told p g.end) taken.named g.did in
+    let tells = subst (λ t. FileGives taken.command taken.name t p g.end) taken.tells named in
+    let well = file_well taken.command taken.files taken.name taken.content taken.app p g.end taken.found taken.stands taken.ready tells in
+    elim (g.noted) as (λ _. IsDoneOrMemory s) [
+      | inl told ↦
+          subst IsDoneOrMemory (sym told.0)
+          (no_fault file file' read read' write write' note note' g.end well
+          (subst (λ x. FileFaults file file' x) told.0 f) (subst (λ x. InputFaults read read' x) told.0 r) (subst (λ x. OutputFaults write write' note note' x) told.0 w) nf nr nw nn)
+      | inr front ↦
+          elim (subst (λ x. OutputFaults write write' note note' x) front.0 w) as (λ _. IsDoneOrMemory s) [ inl rose ↦ absurd (nw rose) | inr rose ↦ absurd (nn rose) ]
+    ]

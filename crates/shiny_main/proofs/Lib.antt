@@ -1,11 +1,10 @@
 pub mod Utf8Tests
 pub mod Feeds
 pub mod LineSteps
-pub mod Drafts
-pub mod Made
 pub mod Answering
 pub mod Taking
 pub mod Turns
 pub mod Replays
-pub mod Tops
+pub mod Ending
+pub mod Telling
 pub mod Complete

@@ -1,8 +1,9 @@
-pub mod AppForm
 pub mod Lines
 pub mod Replaying
 pub mod Statuses
 pub mod Words
+pub mod Ends
+pub mod Notes
+pub mod Commands
 pub mod Top
 pub mod Fronts
-pub mod Written

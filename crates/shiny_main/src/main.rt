@@ -1,10 +1,12 @@
-//! `replay FILE`: a session of the app in FILE, replayed from a transcript.
+//! `check FILE`, `print FILE` and `replay FILE`: an app file checked, printed in its canonical text,
+//! or run on a transcript.
 #![tactic(auto)]
 
-mod draft;
+mod commands;
+mod ended;
 mod line;
 mod lines;
-mod load;
+mod note;
 mod real;
 mod replay;
 mod session;
@@ -15,6 +17,8 @@ mod top;
 mod transcript;
 mod words;
 
+use crate::ended::Ended;
+use crate::note::tell;
 use crate::real::{Reading, RealFiles, Writing};
 use crate::status::Status;
 use crate::top::run_text;
@@ -62,7 +66,12 @@ fn run(rt: &HostRuntime, words: &[String]) -> Status {
 fn main(rt: HostRuntime) -> ExitCode {
     let status = match given_words(&rt) {
         Ok(words) => run(&rt, words.as_slice()),
-        Err(Memory) => Status::Memory,
+        Err(Memory) => tell(
+            rt.alloc(),
+            "",
+            &Ended::Memory,
+            &mut Writing::new(rt.stderr()),
+        ),
     };
     ExitCode::from(status.number())
 }

@@ -2,6 +2,7 @@ ghost use Rattle.std.specs.Prelude.{◌≡◌, Option, None, Some, IfOk};
 ghost use Rattle.app_tree.specs.View.{shape_of};
 ghost use Rattle.session_model.specs.Transcript.{Open, line_of, recv as recv_line};
 ghost use Rattle.session_model.specs.Early.{early_pairs};
+ghost use Rattle.flush_cycle.specs.Built.{IsBuilt};
 ghost use Rattle.shiny_main.specs.Replaying.{AnswersFirst, HoldsOpen, HoldsSession, Updates, TakesRecv};
 
 use crate::line::{Recv, line_of};
@@ -46,6 +47,7 @@ fn opened(
     label: &str,
     pairs: &ClientData,
 ) -> Result<Answered, Memory>
+    requires { IsBuilt (shape_of app.now.value) }
     ensures { IfOk result (λ a. AnswersFirst (shape_of app.now.value) label.now pairs.now a) }
 {
     let label = RxText::from_str(alloc, label)?;
@@ -53,6 +55,7 @@ fn opened(
 }
 
 fn first_recv(alloc: Global, app: &Arc<App>, number: u64, recv: Recv<'_>) -> Result<Taken, Memory>
+    requires { IsBuilt (shape_of app.now.value) }
     ensures { IfOk result (λ t. TakesRecv (shape_of app.now.value) number None (Some (recv_line recv.entry.label.now recv.entry.text.now)) t) }
 {
     if number > LINE_COUNT_LIMIT {
@@ -107,6 +110,7 @@ fn take_recv(
     number: u64,
     recv: Recv<'_>,
 ) -> Result<Taken, Memory>
+    requires { IsBuilt (shape_of app.now.value) }
     ensures { IfOk result (λ t. (s : Option Open) → HoldsSession (shape_of app.now.value) s session → TakesRecv (shape_of app.now.value) number s (Some (recv_line recv.entry.label.now recv.entry.text.now)) t) }
 {
     match session {
@@ -123,6 +127,7 @@ pub fn take_line(
     number: u64,
     line: &[u8],
 ) -> Result<Taken, Memory>
+    requires { IsBuilt (shape_of app.now.value) }
     ensures { IfOk result (λ t. (s : Option Open) → HoldsSession (shape_of app.now.value) s session → TakesRecv (shape_of app.now.value) number s (line_of line.now) t) }
 {
     match line_of(line) {

@@ -1,6 +1,7 @@
 ghost use Rattle.std.specs.Prelude.{◌≡◌, ◌++◌, OnOk, IfOk, codes};
 ghost use Rattle.app_tree.specs.View.{shape_of};
 ghost use Rattle.session_model.specs.Transcript.{send_lines, over_text};
+ghost use Rattle.flush_cycle.specs.Built.{IsBuilt};
 ghost use Rattle.flush_cycle.specs.Flushing.{flushed_by};
 ghost use Rattle.shiny_main.specs.Replaying.{AnswersFirst, AnswersLater, event_lines};
 
@@ -73,6 +74,7 @@ pub fn answer_first(
     label: &RxText,
     pairs: &ClientData,
 ) -> Result<Answered, Memory>
+    requires { IsBuilt (shape_of app.value) }
     ensures { IfOk result (λ a. AnswersFirst (shape_of app.value) label.now pairs.now a) }
 {
     let mut flusher = Flusher::new(alloc, app)?;

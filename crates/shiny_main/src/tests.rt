@@ -41,6 +41,7 @@ const OVER: &str = "s over ended\n";
 struct Ran {
     status: Status,
     output: RxBytes,
+    note: RxBytes,
 }
 
 /// The numbers of the calls that fail.
@@ -49,12 +50,14 @@ struct Failing<'a> {
     reads: &'a [u64],
     takes: &'a [u64],
     puts: &'a [u64],
+    notes: &'a [u64],
 }
 
 const NONE_FAILS: Failing<'static> = Failing {
     reads: &[],
     takes: &[],
     puts: &[],
+    notes: &[],
 };
 
 fn joined(alloc: Global, parts: &[&str]) -> Result<RxBytes, Memory> {
@@ -87,10 +90,28 @@ fn run_on(
     input.fail_take(alloc, failing.takes)?;
     let mut out = MemSink::new(alloc, 100_000)?;
     out.fail_put(alloc, failing.puts)?;
-    let mut note = MemSink::new(alloc, 0)?;
+    let mut note = MemSink::new(alloc, 1_000)?;
+    note.fail_put(alloc, failing.notes)?;
     let status = run_text(alloc, words, &mut files, &mut input, &mut out, &mut note);
     let output = RxBytes::from_slice(alloc, out.bytes())?;
-    Ok(Ran { status, output })
+    let note = RxBytes::from_slice(alloc, note.bytes())?;
+    Ok(Ran {
+        status,
+        output,
+        note,
+    })
+}
+
+/// Runs a command over an empty input.
+fn runs(
+    alloc: Global,
+    command: &str,
+    file: &str,
+    app: &str,
+    failing: &Failing<'_>,
+) -> Result<Ran, Memory> {
+    let words = two_words(alloc, command, file)?;
+    run_on(alloc, words.as_slice(), app, RxBytes::new(alloc), failing)
 }
 
 fn replays(
@@ -157,36 +178,131 @@ fn refused_lines_end_the_replay(rt: HostRuntime) -> Result<(), Fail> {
     for line in second_lines {
         let ran = replays(alloc, COUNTER, &[INIT, line, UPDATE], &NONE_FAILS)?;
         assert_eq!(rt; ran.status, Status::LineRefused, "{line:?}");
+        assert_eq!(rt;
+            ran.note.as_slice(),
+            "line 2: bad line\n".as_bytes(),
+            "{line:?}"
+        );
         let output = joined(alloc, &[CONFIG, RUN, ONE])?;
         assert_eq!(rt; ran.output.as_slice(), output.as_slice(), "{line:?}");
     }
     Ok(())
 }
 
-/// The other statuses, each at its place, with nothing written.
+/// A file checked, printed and refused; nothing of the input is needed.
+#[test]
+fn files_are_checked_and_printed(rt: HostRuntime) -> Result<(), Fail> {
+    let alloc = rt.alloc();
+    let unspaced = "input a=1; text o priority 0{input$a+1 }";
+    let canonical = "budget 1000;\ninput a = 1;\ntext o { input$a + 1 }\n";
+    let cases = [
+        ("check", COUNTER, "ok 2\n"),
+        ("check", "", "ok 0\n"),
+        ("check", unspaced, "ok 2\n"),
+        ("print", unspaced, canonical),
+        ("print", canonical, canonical),
+        ("print", "", "budget 1000;\n"),
+    ];
+    for (command, app, output) in cases {
+        let ran = runs(alloc, command, "f", app, &NONE_FAILS)?;
+        assert_eq!(rt; ran.status, Status::Done, "{command} {app:?}");
+        assert_eq!(rt;
+            ran.output.as_slice(),
+            output.as_bytes(),
+            "{command} {app:?}"
+        );
+        assert_eq!(rt; ran.note.len(), 0, "{command} {app:?}");
+    }
+    Ok(())
+}
+
+/// The other statuses, each with its note and nothing written.
 #[test]
 fn statuses_have_their_causes(rt: HostRuntime) -> Result<(), Fail> {
     let alloc = rt.alloc();
+    let usage =
+        "usage: check FILE | print FILE | fresh FILE | replay FILE | gen SEED SIZE | serve FILE [options]\n";
     let cases = [
-        ("replay", "f", COUNTER, Status::Done, 0),
-        ("replay", "nofile", COUNTER, Status::FileAbsent, 4),
-        ("check", "f", COUNTER, Status::WrongWords, 2),
-        ("replay", "f", "input n = 1", Status::AppRefused, 3),
-        ("replay", "f", "text o { input$n }", Status::AppRefused, 3),
+        ("fresh", "f", COUNTER, 2, usage),
+        ("Check", "f", COUNTER, 2, usage),
+        ("check", "nofile", COUNTER, 4, "file absent: nofile\n"),
+        ("print", "nofile", COUNTER, 4, "file absent: nofile\n"),
+        ("replay", "nofile", COUNTER, 4, "file absent: nofile\n"),
+        (
+            "check",
+            "f",
+            "input a = 1;\ninput a = 2;\n",
+            3,
+            "app refused: NameTwice a at 19\n",
+        ),
+        (
+            "print",
+            "f",
+            "reactive a { b() }\nreactive b { 1 }\n",
+            3,
+            "app refused: ForwardRead b at 13\n",
+        ),
+        (
+            "replay",
+            "f",
+            "input n = 1",
+            3,
+            "app refused: Unexpected at 11\n",
+        ),
+        (
+            "replay",
+            "f",
+            "input n = 1;\nreactive e { input$n }\n",
+            3,
+            "app refused: NotYet e at 0\n",
+        ),
     ];
-    for (command, file, app, status, number) in cases {
-        let words = two_words(alloc, command, file)?;
-        let ran = run_on(
-            alloc,
-            words.as_slice(),
-            app,
-            RxBytes::new(alloc),
-            &NONE_FAILS,
-        )?;
-        assert_eq!(rt; ran.status, status, "{command} {file} {app:?}");
-        assert_eq!(rt; ran.status.number(), number);
+    for (command, file, app, number, note) in cases {
+        let ran = runs(alloc, command, file, app, &NONE_FAILS)?;
+        assert_eq!(rt; ran.status.number(), number, "{command} {file} {app:?}");
         assert_eq!(rt; ran.output.len(), 0, "{command} {file} {app:?}");
+        assert_eq!(rt;
+            ran.note.as_slice(),
+            note.as_bytes(),
+            "{command} {file} {app:?}"
+        );
     }
+    Ok(())
+}
+
+/// Where the note can't be written, that is the status.
+#[test]
+fn notes_may_fail(rt: HostRuntime) -> Result<(), Fail> {
+    let alloc = rt.alloc();
+    let failing = Failing {
+        reads: &[1],
+        takes: &[],
+        puts: &[1],
+        notes: &[1],
+    };
+    for command in ["none", "check", "print", "replay"] {
+        let ran = runs(alloc, command, "f", COUNTER, &failing)?;
+        assert_eq!(rt; ran.status, Status::WriteFault, "{command}");
+        assert_eq!(rt; ran.output.len(), 0, "{command}");
+    }
+    Ok(())
+}
+
+/// An app may name its budget, and a session that spends it is over.
+#[test]
+fn budgets_are_spent(rt: HostRuntime) -> Result<(), Fail> {
+    let alloc = rt.alloc();
+    let app = "budget 1;\ninput n = 1;\ntext o { input$n }\ntext p { input$n }\n";
+    let init =
+        "s recv {\"method\":\"init\",\"data\":{\".clientdata_output_o_hidden\":false,\".clientdata_output_p_hidden\":false}}\n";
+    let ran = replays(alloc, app, &[init], &NONE_FAILS)?;
+    assert_eq!(rt; ran.status, Status::Done);
+    let output = joined(alloc, &[CONFIG, RUN, "s over budget\n"])?;
+    assert_eq!(rt; ran.output.as_slice(), output.as_slice());
+    let ran = replays(alloc, app, &[init, UPDATE], &NONE_FAILS)?;
+    assert_eq!(rt; ran.status, Status::LineRefused);
+    assert_eq!(rt; ran.note.as_slice(), "line 2: no session\n".as_bytes());
+    assert_eq!(rt; ran.output.as_slice(), output.as_slice());
     Ok(())
 }
 
@@ -205,7 +321,12 @@ fn faults_leave_a_front_of_the_output(rt: HostRuntime) -> Result<(), Fail> {
         (&[], &[], &[3], Status::WriteFault),
     ];
     for (reads, takes, puts, status) in cases {
-        let failing = Failing { reads, takes, puts };
+        let failing = Failing {
+            reads,
+            takes,
+            puts,
+            notes: &[],
+        };
         let ran = replays(alloc, COUNTER, &[INIT, UPDATE], &failing)?;
         assert_eq!(rt; ran.status, status, "{reads:?} {takes:?} {puts:?}");
         assert!(rt; whole.as_slice().starts_with(ran.output.as_slice()));
@@ -308,6 +429,10 @@ fn long_files_are_refused(rt: HostRuntime) -> Result<(), Fail> {
     app.push(' ')?;
     let ran = replays(alloc, app.as_str(), &[], &NONE_FAILS)?;
     assert_eq!(rt; ran.status, Status::AppRefused);
+    assert_eq!(rt;
+        ran.note.as_slice(),
+        "app refused: TooLong at 262144\n".as_bytes()
+    );
     assert_eq!(rt; ran.output.len(), 0);
     Ok(())
 }

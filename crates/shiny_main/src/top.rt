@@ -1,76 +1,96 @@
 ghost use Rattle.std.specs.Prelude.{◌≡◌, ◌≤◌};
 ghost use Rattle.rx_ports.specs.Faults.{Rose};
-ghost use Rattle.shiny_main.specs.Top.{status_of, AppGives, RunGives, FileFaults, InputFaults, OutputFaults, IsTaken, IsDoneOrMemory};
+ghost use Rattle.shiny_main.specs.Ends as ends;
+ghost use Rattle.shiny_main.specs.Words.{words_of};
+ghost use Rattle.shiny_main.specs.Notes.{file_of};
+ghost use Rattle.shiny_main.specs.Top.{FileGives, WordsGive, RunGives, FileFaults, InputFaults, OutputFaults, IsTaken, IsDoneOrMemory};
 
-use crate::load::{LoadError, load};
+use crate::commands::run_app;
+use crate::ended::Ended;
+use crate::note::tell;
 use crate::status::Status;
-use crate::transcript::{Replayed, replay};
-use crate::words::replay_file;
+use crate::words::{Command, words_of};
 use rx_ports::{FileRead, Files, Sink, Source};
 use std::alloc::Global;
-use std::sync::Arc;
 
 /// The most bytes of an app file.
 const FILE_LIMIT: usize = 262_144;
 
-fn status_of(replayed: Replayed) -> Status
-    ensures { result ≡ status_of replayed }
+fn run_file<F: Files, S: Source, K: Sink>(
+    alloc: Global,
+    command: Command,
+    file: &str,
+    files: &mut F,
+    input: &mut S,
+    out: &mut K,
+) -> Ended
+    ensures gives { FileGives command file.now (F.told files.old) (record { left = S.left input.old; left_after = S.left input.new; held = K.held out.old; held_after = K.held out.new }) result }
+    ensures told { F.told files.new ≡ F.told files.old }
+    ensures file { ends.FileFaults (F.faults files.old) (F.faults files.new) result }
+    ensures read { ends.InputFaults (S.faults input.old) (S.faults input.new) result }
+    ensures write { ends.OutputFaults (K.faults out.old) (K.faults out.new) result }
 {
-    match replayed {
-        Replayed::Done => Status::Done,
-        Replayed::BadLine(_) | Replayed::NoSession(_) => Status::LineRefused,
-        Replayed::ReadFault => Status::ReadFault,
-        Replayed::WriteFault => Status::WriteFault,
-        Replayed::Memory => Status::Memory,
+    match files.read(alloc, file, FILE_LIMIT) {
+        FileRead::Found(bytes) => run_app(alloc, command, bytes.as_slice(), input, out),
+        FileRead::Absent => Ended::FileAbsent,
+        FileRead::Failed => Ended::FileFault,
+        FileRead::Memory => Ended::Memory,
     }
 }
 
-/// Loads an app and replays the input.
-fn run_app<S: Source, K: Sink>(alloc: Global, bytes: &[u8], input: &mut S, out: &mut K) -> Status
-    ensures gives { AppGives bytes.now (S.left input.old) (S.left input.new) (K.held out.old) (K.held out.new) result }
-    ensures read_later { S.faults input.old ≤ S.faults input.new }
-    ensures write_later { K.faults out.old ≤ K.faults out.new }
-    ensures read { InputFaults (S.faults input.old) (S.faults input.new) result }
-    ensures write { OutputFaults (K.faults out.old) (K.faults out.new) result }
-{
-    match load(alloc, bytes) {
-        Ok(app) => match Arc::new(alloc, app) {
-            Ok(app) => status_of(replay(alloc, &app, input, out)),
-            Err(_) => Status::Memory,
-        },
-        Err(LoadError::NotYet) => Status::AppRefused,
-        Err(LoadError::Memory) => Status::Memory,
-    }
-}
-
-fn replay_words<F: Files, S: Source, K: Sink>(
+fn run_words<F: Files, S: Source, K: Sink>(
     alloc: Global,
     words: &[String],
     files: &mut F,
     input: &mut S,
     out: &mut K,
+) -> Ended
+    ensures gives { WordsGive (words_of words.now) (F.told files.old) (record { left = S.left input.old; left_after = S.left input.new; held = K.held out.old; held_after = K.held out.new }) result }
+    ensures told { F.told files.new ≡ F.told files.old }
+    ensures file { ends.FileFaults (F.faults files.old) (F.faults files.new) result }
+    ensures read { ends.InputFaults (S.faults input.old) (S.faults input.new) result }
+    ensures write { ends.OutputFaults (K.faults out.old) (K.faults out.new) result }
+{
+    match words_of(words) {
+        Some(words) => run_file(alloc, words.command, words.file, files, input, out),
+        None => Ended::WrongWords,
+    }
+}
+
+/// The file that the words name; nothing where they are no command's.
+fn file_of(words: &[String]) -> &str
+    ensures { result.now ≡ file_of (words_of words.now) }
+{
+    match words_of(words) {
+        Some(words) => words.file,
+        None => "",
+    }
+}
+
+fn run_and_tell<F: Files, S: Source, K: Sink, N: Sink>(
+    alloc: Global,
+    words: &[String],
+    files: &mut F,
+    input: &mut S,
+    out: &mut K,
+    note: &mut N,
 ) -> Status
-    ensures gives { RunGives words.now (F.told files.old) (S.left input.old) (S.left input.new) (K.held out.old) (K.held out.new) result }
+    ensures gives { RunGives words.now (F.told files.old) (record { left = S.left input.old; left_after = S.left input.new; held = K.held out.old; held_after = K.held out.new }) (N.held note.old) (N.held note.new) result }
     ensures told { F.told files.new ≡ F.told files.old }
     ensures file { FileFaults (F.faults files.old) (F.faults files.new) result }
     ensures read { InputFaults (S.faults input.old) (S.faults input.new) result }
-    ensures write { OutputFaults (K.faults out.old) (K.faults out.new) result }
+    ensures write { OutputFaults (K.faults out.old) (K.faults out.new) (N.faults note.old) (N.faults note.new) result }
 {
-    let Some(name) = replay_file(words) else {
-        return Status::WrongWords;
-    };
-    match files.read(alloc, name, FILE_LIMIT) {
-        FileRead::Found(bytes) => run_app(alloc, bytes.as_slice(), input, out),
-        FileRead::Absent => Status::FileAbsent,
-        FileRead::Failed => Status::FileFault,
-        FileRead::Memory => Status::Memory,
-    }
+    let ended = run_words(alloc, words, files, input, out);
+    tell(alloc, file_of(words), &ended, note)
 }
 
 /// All that the program does: takes the words of the command line without the program's name, and
 /// the files, the input, the output and the note that it is handed.
 ///
-/// `replay FILE` replays the transcript on the input with the app in FILE. No note is written today.
+/// `check FILE` says how many items the app in FILE has, `print FILE` writes its canonical text, and
+/// `replay FILE` replays the transcript on the input with it. Where it can't be done the note tells
+/// why, in one line.
 pub fn run_text<F: Files, S: Source, K: Sink, N: Sink>(
     alloc: Global,
     words: &[String],
@@ -79,14 +99,12 @@ pub fn run_text<F: Files, S: Source, K: Sink, N: Sink>(
     out: &mut K,
     note: &mut N,
 ) -> Status
-    ensures gives { RunGives words.now (F.told files.old) (S.left input.old) (S.left input.new) (K.held out.old) (K.held out.new) result }
+    ensures gives { RunGives words.now (F.told files.old) (record { left = S.left input.old; left_after = S.left input.new; held = K.held out.old; held_after = K.held out.new }) (N.held note.old) (N.held note.new) result }
     ensures told { F.told files.new ≡ F.told files.old }
     ensures file { FileFaults (F.faults files.old) (F.faults files.new) result }
     ensures read { InputFaults (S.faults input.old) (S.faults input.new) result }
-    ensures write { OutputFaults (K.faults out.old) (K.faults out.new) result }
-    ensures note { N.held note.new ≡ N.held note.old }
-    ensures complete { IsTaken words.now (F.told files.old) (S.left input.old) → ¬ Rose (F.faults files.old) (F.faults files.new) → ¬ Rose (S.faults input.old) (S.faults input.new) → ¬ Rose (K.faults out.old) (K.faults out.new) → IsDoneOrMemory result }
+    ensures write { OutputFaults (K.faults out.old) (K.faults out.new) (N.faults note.old) (N.faults note.new) result }
+    ensures complete { IsTaken words.now (F.told files.old) (S.left input.old) → ¬ Rose (F.faults files.old) (F.faults files.new) → ¬ Rose (S.faults input.old) (S.faults input.new) → ¬ Rose (K.faults out.old) (K.faults out.new) → ¬ Rose (N.faults note.old) (N.faults note.new) → IsDoneOrMemory result }
 {
-    let _ = note;
-    replay_words(alloc, words, files, input, out)
+    run_and_tell(alloc, words, files, input, out, note)
 }

@@ -2,6 +2,7 @@ ghost use Rattle.std.specs.Prelude.{◌≡◌, ◌≤◌, [], Option, None, IfOk
 ghost use Rattle.app_tree.specs.View.{shape_of};
 ghost use Rattle.session_model.specs.Transcript.{Open, over_text};
 ghost use Rattle.shiny_main.specs.Lines.{remaining};
+ghost use Rattle.flush_cycle.specs.Built.{IsBuilt};
 ghost use Rattle.shiny_main.specs.Replaying.{HoldsSession, ReplayGives, ReadFaults, PutsAnswer, PutsOver, ClosesOpen, Closes, AnswersTaken, TurnGives, WriteFaults, TurnReadFaults, TurnWriteFaults};
 
 use crate::lines::{Lines, NextLine};
@@ -103,6 +104,7 @@ fn take_turn<S: Source, K: Sink>(
     input: &mut S,
     out: &mut K,
 ) -> Turn
+    requires { IsBuilt (shape_of app.now.value) }
     ensures gives { (s : Option Open) → HoldsSession (shape_of app.now.value) s session → TurnGives (shape_of app.now.value) number s (remaining lines.old (S.left input.old)) (remaining lines.new (S.left input.new)) (S.left input.new) (K.held out.old) (K.held out.new) result }
     ensures read_later { S.faults input.old ≤ S.faults input.new }
     ensures write_later { K.faults out.old ≤ K.faults out.new }
@@ -142,6 +144,7 @@ pub fn replay<S: Source, K: Sink>(
     input: &mut S,
     out: &mut K,
 ) -> Replayed
+    requires { IsBuilt (shape_of app.now.value) }
     ensures gives { ReplayGives (shape_of app.now.value) 1 None (remaining [] (S.left input.old)) (S.left input.new) (K.held out.old) (K.held out.new) result }
     ensures read_later { S.faults input.old ≤ S.faults input.new }
     ensures write_later { K.faults out.old ≤ K.faults out.new }

@@ -1,4 +1,5 @@
-use Rattle.std.proofs.Common.{◌<◌, ◌≡◌, ◌-◌, length, arith, refl}
+use Rattle.std.proofs.Common.{◌<◌, ◌≡◌, ◌-◌, length, arith, refl, true, Ok, subst}
+use Rattle.app_tokens.specs.Scan.{tokens_from}
 use Rattle.app_tokens.proofs.Pieces.{IsCut-piece, IsUtf8-behind, scan_step, scan_refuses, scan_accepts, scan_stops}
 use Rattle.app_tokens.proofs.scan.scan.Goals as goal
 
@@ -41,3 +42,10 @@ returns-clause-accepted c =
     let none : length c.loop-rest.rest.now ≡ 0 = grind arith in
     scan_accepts c.args.whole c.args.text.now c.loop-rest.rest.now c.loop-rest.tokens.items c.new.result.tokens none c.loop-rest.invariant.said
     (grind arith) (rw c.new.ensures refl)
+
+pub new-requires : goal.new-requires
+new-requires c =
+    let none : length c.loop-rest.rest.now ≡ 0 = grind arith in
+    let whole : c.args.whole ≡ true = grind arith in
+    let cut = scan_accepts c.args.whole c.args.text.now c.loop-rest.rest.now c.loop-rest.tokens.items c.loop-rest.tokens.items none c.loop-rest.invariant.said whole refl in
+    record { text = c.args.text.now; cut = subst (λ w. tokens_from w 0 0 c.args.text.now ≡ Ok c.loop-rest.tokens.items) whole cut }

@@ -1,0 +1,21 @@
+use Rattle.std.proofs.Common.{◌≡◌, ap, sym, ◌∙◌, map}
+use Rattle.app_tree.specs.DraftView.{written_item, draft_shape_of}
+use Rattle.app_tree.specs.View.{node_of}
+use Rattle.app_check.proofs.Accepted.{table_within, draft_passes, draft_stands}
+use Rattle.app_check.proofs.checking.check.Goals as goal
+
+pub items-requires-in-None : goal.items-requires-in-None
+items-requires-in-None c = table_within c.in_ok-table.table (map written_item c.as_slice-written.result.now) (c.in_ok-table.ensures {u = tt}) (sym c.first_found.ensures ∙ c.in-None.is)
+
+pub new-requires-in-None : goal.new-requires-in-None
+new-requires-in-None c =
+    let d = draft_shape_of c.args.draft.now in
+    let items = map written_item c.as_slice-written.result.now in
+    let same : items ≡ d.items = ap (map written_item) (c.as_slice-written.ensures ∙ c.items.ensures.items) in
+    let table = c.in_ok-table.table in
+    record {
+      draft = d;
+      fits = c.items.ensures.fits;
+      passes = draft_passes d table items same (c.in_ok-table.ensures {u = tt}) (sym c.first_found.ensures ∙ c.in-None.is);
+      stands = draft_stands d table items c.budget.result (map node_of c.in_ok-items-in-None.items) same (c.in_ok-table.ensures {u = tt}) c.budget.ensures c.in_ok-items-in-None.ensures;
+    }

@@ -1,0 +1,8 @@
+pub mod Text
+pub mod Load
+pub mod Tables
+pub mod Spots
+pub mod Resolving
+pub mod Joined
+pub mod Laws
+pub mod Example

@@ -1,0 +1,27 @@
+//! The checks of an app file, and the app that it stands for.
+//!
+//! [`load`] makes an app of a file's bytes: it cuts them into tokens, reads the draft that they stand for,
+//! and checks it. [`check`] is the last of these steps. Of several checks that fail the refusal is the one
+//! whose place is smallest.
+#![tactic(auto)]
+
+mod checking;
+mod error;
+mod examples;
+mod found;
+mod item_faults;
+mod item_resolve;
+mod laws;
+mod resolver;
+mod spot;
+mod statement_faults;
+mod table;
+mod term_faults;
+mod term_resolve;
+#[cfg(test)]
+mod tests;
+
+pub use checking::{check, load};
+pub use error::LoadError;
+pub use examples::worked_examples;
+pub use laws::first_refusal_laws;

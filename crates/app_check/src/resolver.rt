@@ -1,0 +1,190 @@
+//! What names stand for, as numbers, where a term stands.
+
+ghost use Rattle.std.specs.Prelude.{◌≡◌, ◌≤◌, [], ◌∷◌, ◌++◌, IfOk, OnOk, length, map, take};
+ghost use Rattle.app_tree.specs.Resolve.{text_of_name, number_named, resolved_read, innermost_from, innermost, number_or_zero, read_to, named_read};
+ghost use Rattle.app_check.specs.Tables.{sorts_of};
+ghost use Rattle.app_check.specs.Resolving.{Makes, behind_sites, in_fold};
+
+use crate::table::{Sorts, Table};
+use crate::term_faults::sought_by;
+use app_tree::{Name, Read, ReadForm, Sort};
+use rx_value::{Memory, RxText};
+use std::alloc::Global;
+use std::marker::Model;
+
+/// What is known where a part of an item stands.
+#[derive(Drop)]
+pub struct Resolver<'t, 'a> {
+    table: &'t Table<'a>,
+    /// The variables that are bound, from the outside to the inside.
+    variables: Vec<&'a RxText>,
+    /// The number of the next site.
+    site: usize,
+}
+
+impl<'t, 'a> Model for Resolver<'t, 'a> {
+    ghost use Rattle.std.specs.Prelude.{◌≤◌, length, map};
+    ghost use Rattle.std.specs.Coded.{codes};
+    ghost use Rattle.app_check.specs.Resolving.{Resolving};
+
+    ghost Value = { Resolving };
+
+    ghost coded = { Prim.hlevel (codes) };
+
+    ghost view = { λ r. record { table = r.table.now; scope = map (λ v. v.now) r.variables.items; site = r.site } };
+
+    ghost invariant = { λ r. length r.table.now ≤ 500 };
+}
+
+fn push<'a>(variables: &mut Vec<&'a RxText>, name: &'a RxText) -> Result<(), Memory>
+    ensures { OnOk result (variables.new.items ≡ variables.old.items ++ name.entry ∷ []) }
+{
+    match variables.push(name) {
+        Ok(()) => Ok(()),
+        Err(_) => Err(Memory),
+    }
+}
+
+fn texts_of<'a>(alloc: Global, names: &'a [Name]) -> Result<Vec<&'a RxText>, Memory>
+    ensures { IfOk result (λ texts. map (λ v. v.now) texts.items ≡ map text_of_name names.now) }
+{
+    let mut texts = Vec::new(alloc);
+    for name in names {
+        push(&mut texts, &name.text)?;
+    }
+    Ok(texts)
+}
+
+/// The place of the innermost variable of this name.
+fn innermost(variables: &[&RxText], name: &RxText) -> Option<usize>
+    ensures { result ≡ innermost name.now (map (λ v. v.now) variables.now) }
+{
+    let mut found = None;
+    for (place, variable) in variables.iter().enumerate() {
+        if name.same(variable) {
+            found = Some(place);
+        }
+    }
+    found
+}
+
+/// The read of what has this number and is of this sort.
+fn read_to(form: ReadForm, sort: Sort, number: u32) -> Read
+    ensures { result ≡ read_to form sort number }
+{
+    match form {
+        ReadForm::Input => Read::Input(number),
+        ReadForm::Named => named_read(sort, number),
+        ReadForm::Status => Read::Status(number),
+        ReadForm::Result => Read::Result(number),
+        ReadForm::Width => Read::Width(number),
+        ReadForm::Height => Read::Height(number),
+    }
+}
+
+fn named_read(sort: Sort, number: u32) -> Read
+    ensures { result ≡ named_read sort number }
+{
+    match sort {
+        Sort::Value => Read::Value(number),
+        _ => Read::Expr(number),
+    }
+}
+
+impl<'t, 'a> Resolver<'t, 'a> {
+    /// Before an item's text, where no variable is bound and no site was passed.
+    pub fn new(alloc: Global, table: &'t Table<'a>) -> Resolver<'t, 'a>
+        requires { length table.now ≤ 500 }
+        ensures { result ≡ record { table = table.now; scope = []; site = 0 } }
+    {
+        Resolver {
+            table,
+            variables: Vec::new(alloc),
+            site: 0,
+        }
+    }
+
+    /// The same in a task with these parameters.
+    pub fn with_parameters(
+        alloc: Global,
+        table: &'t Table<'a>,
+        parameters: &'a [Name],
+    ) -> Result<Resolver<'t, 'a>, Memory>
+        requires { length table.now ≤ 500 }
+        ensures { IfOk result (λ r. r ≡ record { table = table.now; scope = map text_of_name parameters.now; site = 0 }) }
+    {
+        let variables = texts_of(alloc, parameters)?;
+        Ok(Resolver {
+            table,
+            variables,
+            site: 0,
+        })
+    }
+
+    /// The number of a site that begins here. More sites than can be counted find no memory either.
+    pub fn next_site(&mut self) -> Result<usize, Memory>
+        ensures { Makes (λ n. n) result self.new (self.old.site, behind_sites self.old 1) }
+    {
+        let site = self.site;
+        match site.checked_add(1) {
+            Some(next) => {
+                self.site = next;
+                Ok(site)
+            }
+            None => Err(Memory),
+        }
+    }
+
+    /// How many variables are bound.
+    pub fn count(&self) -> usize
+        ensures { result ≡ length self.now.scope }
+    {
+        self.variables.len()
+    }
+
+    /// Binds the variables of a fold, for its last part.
+    pub fn bind(&mut self, accumulator: &'a Name, element: &'a Name) -> Result<(), Memory>
+        ensures { OnOk result (self.new ≡ in_fold self.old accumulator.now.text element.now.text) }
+    {
+        push(&mut self.variables, &accumulator.text)?;
+        push(&mut self.variables, &element.text)
+    }
+
+    /// Lets go the variables but for the first `count`.
+    #[tactic(auto, using(crate::proofs::Counted::names_kept))]
+    pub fn unbind(&mut self, count: usize)
+        ensures { self.new ≡ record self.old { scope = take count self.old.scope } }
+    {
+        self.variables.truncate(count);
+    }
+
+    /// The number of what the name stands for among these sorts, or 0 where there is none.
+    pub fn number(&self, sought: Sorts, name: &Name) -> u32
+        ensures { result ≡ number_named self.now.table (sorts_of sought) name.now.text }
+    {
+        match self.table.find(sought, &name.text) {
+            Some(found) => self.table.number_at(found.item, found.sort),
+            None => 0,
+        }
+    }
+
+    /// What is read by this name.
+    pub fn read(&self, form: ReadForm, name: &Name) -> Read
+        ensures { result ≡ resolved_read self.now.table form name.now.text }
+    {
+        match self.table.find(sought_by(form), &name.text) {
+            Some(found) => {
+                let number = self.table.number_at(found.item, found.sort);
+                read_to(form, found.sort, number)
+            }
+            None => read_to(form, Sort::Expression, 0),
+        }
+    }
+
+    /// The number of the variable of this name, or 0 where there is none.
+    pub fn variable(&self, name: &Name) -> usize
+        ensures { result ≡ number_or_zero (innermost name.now.text self.now.scope) }
+    {
+        innermost(self.variables.as_slice(), &name.text).unwrap_or(0)
+    }
+}

@@ -1,0 +1,44 @@
+-- A printed app reads back.
+use Rattle.rx_value.specs.declared.memory.Memory.{Memory}
+use Rattle.std.specs.Prelude.{IfOk, OnOk}
+use Rattle.std.proofs.Common.{◌≡◌, ℕ, true, List, [], Result, Ok, Err, None, sym, ap, ◌∙◌, subst}
+use Rattle.std.specs.Str.{IsUtf8}
+use Rattle.app_tree.specs.Tree.{Shape}
+use Rattle.app_tree.specs.DraftTree.{DraftShape}
+use Rattle.app_tree.specs.Fits.{fits}
+use Rattle.app_tree.specs.Named.{named}
+use Rattle.app_tree.specs.Unplaced.{unplaced}
+use Rattle.app_tree.specs.Resolve.{resolved}
+use Rattle.app_tree.specs.Faults.{faults, first_with, accepted_or, checked}
+use Rattle.app_tree.specs.WellFormed.{IsWellFormed}
+use Rattle.app_tree.proofs.Fitting.{fits_unplaced}
+use Rattle.app_tree.proofs.Naming.{named_resolved}
+use Rattle.app_tree.proofs.Places.{passes_alike, resolved_alike}
+use Rattle.app_printer.specs.Canonical.{canonical_text}
+use Rattle.app_printer.specs.Words.{has_words}
+use Rattle.app_printer.specs.Laws.{ReadsBack}
+use Rattle.app_printer.proofs.DraftLaws.{text_is_read}
+use Rattle.app_printer.proofs.NamedLaws.{named_is_unplaced}
+
+checked_alike : (d e : DraftShape) → unplaced d ≡ unplaced e → faults d ≡ [] → checked e ≡ Ok (resolved d)
+checked_alike d e same none =
+    ap (λ rs. accepted_or (first_with None rs) (resolved e)) (passes_alike d e same none) ∙ ap Ok (sym (resolved_alike d e same))
+
+pub reads_back : (app : Shape) → IsWellFormed app → has_words (named app) ≡ true → IsUtf8 (canonical_text app) → ReadsBack app
+reads_back app good words utf8 =
+    let as_written : named app ≡ unplaced good.draft = ap named (sym good.stands) ∙ named_resolved good.draft good.passes in
+    let fit : fits (named app) ≡ true = ap fits as_written ∙ fits_unplaced good.draft ∙ good.fits in
+    let back = text_is_read (named app) fit words utf8 in
+    let same : unplaced good.draft ≡ unplaced back.1 = sym (back.2.same ∙ named_is_unplaced app ∙ as_written) in
+    record {
+      tokens = back.0;
+      draft = back.1;
+      cut = back.2.cut;
+      is_read = back.2.is_read;
+      stands = checked_alike good.draft back.1 same good.passes ∙ ap Ok good.stands;
+    }
+
+-- what was printed reads back
+pub printed_back : (app : Shape) (r : Result (List ℕ) Memory) → IsWellFormed app → IfOk r (λ t. t ≡ canonical_text app) → IfOk r (λ t. IsUtf8 t) → OnOk r (has_words (named app) ≡ true → ReadsBack app)
+printed_back app (Ok t) good is utf8 = λ words. reads_back app good words (let P : List ℕ → Type 0 = λ l. IsUtf8 l in subst P is utf8)
+printed_back app (Err m) good is utf8 = tt

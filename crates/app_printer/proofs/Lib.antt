@@ -1,0 +1,13 @@
+pub mod Escapes
+pub mod Forms
+pub mod ItemForms
+pub mod Reserved
+pub mod TokenLaws
+pub mod Literals
+pub mod TermLaws
+pub mod ActLaws
+pub mod ItemLaws
+pub mod DraftLaws
+pub mod NamedLaws
+pub mod Worked
+pub mod Back

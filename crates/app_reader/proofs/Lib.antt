@@ -1,0 +1,14 @@
+pub mod Loops
+pub mod Lists
+pub mod Worked
+pub mod Got
+pub mod Ranks
+pub mod TermsSound
+pub mod PartsSound
+pub mod FilesSound
+pub mod Again
+pub mod ChainsAgain
+pub mod TermsAgain
+pub mod PartsAgain
+pub mod FilesAgain
+pub mod Cut

@@ -1,0 +1,12 @@
+pub mod State
+pub mod Loop
+pub mod View
+pub mod Words
+pub mod Terms
+pub mod Constants
+pub mod Statements
+pub mod Items
+pub mod Example
+pub mod Spelling
+pub mod Laws
+pub mod Spelled

@@ -1,0 +1,22 @@
+ghost use Rattle.std.specs.Prelude.{ℕ, []};
+ghost use Rattle.app_tree.specs.Tree.{Shape};
+
+use std::marker::Brand;
+
+/// Names a shared cache in the types of what belongs to it, since a value behind a lock or in a queue
+/// is known by its type alone. It has no functions; what it means is for proofs.
+pub trait CacheName {
+    ghost app: { Shape };
+
+    ghost entries: { ℕ };
+
+    ghost bytes: { ℕ };
+}
+
+impl CacheName for Brand {
+    ghost app = { record { budget = 1000; items = [] } };
+
+    ghost entries = { 1 };
+
+    ghost bytes = { 0 };
+}
