@@ -14,9 +14,9 @@ use Rattle.app_tree.specs.Fresh.{IsolatedOutcomes, kept_sites, answer_to, known_
 use Rattle.shiny_json.specs.declared.batch.BatchOutput.{BatchOutput}
 use Rattle.session_model.specs.declared.state.ReaderState.{ReaderState}
 use Rattle.session_model.specs.State.{SessionState, first_reader, isolated_of}
-use Rattle.session_model.specs.Run.{run_reader, forgotten}
-use Rattle.session_model.specs.Flush.{Run, FlushEnd, done, budget_spent, flush_from, flush, flush_step, flush_end, waiting_from, next_waiting, with_last, run_of}
-use Rattle.session_model.specs.Texts.{name_at, batch_output, batch_outputs}
+use Rattle.session_model.specs.EarlyRun.{run_reader, forgotten}
+use Rattle.session_model.specs.EarlyFlush.{Run, FlushEnd, done, budget_spent, flush_from, flush, flush_step, flush_end, waiting_from, next_waiting, with_last, run_of}
+use Rattle.session_model.specs.EarlyTexts.{name_at, batch_output, batch_outputs}
 use Rattle.flush_cycle.specs.State.{state_of}
 use Rattle.flush_cycle.specs.Passed.{IsPassed, WaitsAt, waits_at, passed_of, ran_reader, shown_output, shown_outcome}
 use Rattle.flush_cycle.specs.Built.{plain_shown}

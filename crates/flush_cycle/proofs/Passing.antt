@@ -7,7 +7,7 @@ use Rattle.app_tree.specs.declared.item.Item.{Item}
 use Rattle.app_tree.specs.View.{node_of}
 use Rattle.app_tree.specs.Numbering.{is_reader}
 use Rattle.session_model.specs.declared.state.ReaderState.{ReaderState}
-use Rattle.session_model.specs.Flush.{is_waiting, waiting_from}
+use Rattle.session_model.specs.EarlyFlush.{is_waiting, waiting_from}
 use Rattle.flush_cycle.specs.Built.{plain_shown}
 use Rattle.flush_cycle.specs.Passed.{waits_at, IsPassed}
 

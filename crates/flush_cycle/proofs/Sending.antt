@@ -4,8 +4,8 @@ use Rattle.app_tree.specs.Tree.{Shape}
 use Rattle.shiny_json.specs.declared.batch.BatchOutput.{BatchOutput}
 use Rattle.shiny_json.specs.Server.{config_text, busy_text}
 use Rattle.session_model.specs.State.{SessionState}
-use Rattle.session_model.specs.Flush.{Run, Flushed}
-use Rattle.session_model.specs.Texts.{output_texts, run_name, run_texts, batch_outputs, closing_texts, flush_texts, first_texts, later_texts_by, later_texts}
+use Rattle.session_model.specs.EarlyFlush.{Run, Flushed}
+use Rattle.session_model.specs.EarlyTexts.{output_texts, run_name, run_texts, batch_outputs, closing_texts, flush_texts, first_texts, later_texts_by, later_texts}
 use Rattle.flush_cycle.specs.declared.texts.Sent.{Sent}
 use Rattle.flush_cycle.specs.Passed.{Passed, passed_of, end_of}
 use Rattle.flush_cycle.specs.Sent.{outputs_texts, closing_pass, pass_texts, first_pass, later_pass, Sends}

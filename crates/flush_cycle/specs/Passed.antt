@@ -8,8 +8,8 @@ use Rattle.app_tree.specs.Current.{value_at, plain_outcome}
 use Rattle.shiny_json.specs.declared.batch.BatchOutput.{BatchOutput}
 use Rattle.session_model.specs.declared.state.ReaderState.{ReaderState}
 use Rattle.session_model.specs.State.{SessionState, is_alive}
-use Rattle.session_model.specs.Flush.{waiting_from, FlushEnd, done, budget_spent, Flushed}
-use Rattle.session_model.specs.Texts.{batch_outputs}
+use Rattle.session_model.specs.EarlyFlush.{waiting_from, FlushEnd, done, budget_spent, Flushed}
+use Rattle.session_model.specs.EarlyTexts.{batch_outputs}
 use Rattle.flush_cycle.specs.Built.{plain_shown}
 
 -- what an output comes to that shows the input of source number s

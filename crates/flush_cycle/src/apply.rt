@@ -2,7 +2,7 @@ ghost use Rattle.std.specs.Prelude.{◌≡◌, [], OnOk};
 ghost use Rattle.rx_value.specs.declared.source.SourceValue.TheVariants.{Plain};
 ghost use Rattle.app_tree.specs.View.{shape_of};
 ghost use Rattle.session_model.specs.Change.{change};
-ghost use Rattle.session_model.specs.Apply.{is_shown_by, with_shown, apply_hidden, hidden_output, apply_pair, apply_pairs};
+ghost use Rattle.session_model.specs.EarlyApply.{is_shown_by, with_shown, apply_hidden, hidden_output, apply_pair, apply_pairs};
 ghost use Rattle.flush_cycle.specs.State.{state_of};
 
 use crate::change::change;

@@ -1,7 +1,7 @@
 ghost use Rattle.std.specs.Prelude.{◌≡◌, IfOk};
 ghost use Rattle.app_tree.specs.View.{shape_of};
-ghost use Rattle.session_model.specs.Alone.{applied};
-ghost use Rattle.session_model.specs.Texts.{first_texts, later_texts};
+ghost use Rattle.session_model.specs.EarlyAlone.{applied};
+ghost use Rattle.session_model.specs.EarlyTexts.{first_texts, later_texts};
 ghost use Rattle.flush_cycle.specs.State.{state_of};
 ghost use Rattle.flush_cycle.specs.Built.{IsBuilt};
 ghost use Rattle.flush_cycle.specs.Passed.{passed_of, end_of};

@@ -1,8 +1,8 @@
 ghost use Rattle.std.specs.Prelude.{◌≡◌, IfOk};
 ghost use Rattle.app_tree.specs.View.{shape_of};
-ghost use Rattle.session_model.specs.State.{first_state};
-ghost use Rattle.session_model.specs.Alone.{applied};
-ghost use Rattle.session_model.specs.Texts.{first_texts, later_texts};
+ghost use Rattle.session_model.specs.EarlyAlone.{first_state};
+ghost use Rattle.session_model.specs.EarlyAlone.{applied};
+ghost use Rattle.session_model.specs.EarlyTexts.{first_texts, later_texts};
 ghost use Rattle.flush_cycle.specs.Built.{IsBuilt};
 ghost use Rattle.flush_cycle.specs.Flushing.{FlushGives, flushed_of, stage_after};
 

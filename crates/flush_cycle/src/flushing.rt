@@ -1,7 +1,7 @@
 ghost use Rattle.std.specs.Prelude.{◌≡◌, ◌∷◌, [], ◌++◌, ◌<◌, length, slice_set, unwrap_or, slice_get, IfOk, OnOk};
 ghost use Rattle.app_tree.specs.View.{shape_of};
 ghost use Rattle.session_model.specs.State.{first_reader};
-ghost use Rattle.session_model.specs.Flush.{flush};
+ghost use Rattle.session_model.specs.EarlyFlush.{flush};
 ghost use Rattle.flush_cycle.specs.State.{state_of};
 ghost use Rattle.flush_cycle.specs.Built.{IsBuilt};
 ghost use Rattle.flush_cycle.specs.Passed.{ran_reader, end_of, passed_of, shown_output};

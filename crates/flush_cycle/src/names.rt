@@ -2,7 +2,7 @@ ghost use Rattle.std.specs.Prelude.{◌≡◌, map};
 ghost use Rattle.std.specs.Option.{option_copied};
 ghost use Rattle.app_tree.specs.View.{node_of};
 ghost use Rattle.app_tree.specs.Numbering.{input_number, output_number};
-ghost use Rattle.session_model.specs.Apply.{after_front, before_end, hidden_output_name, hidden_output};
+ghost use Rattle.session_model.specs.EarlyApply.{after_front, before_end, hidden_output_name, hidden_output};
 
 use app_tree::Item;
 

@@ -2,8 +2,8 @@
 use Rattle.std.proofs.Common.{◌≡◌, ℕ, List, [], ◌∷◌, ◌++◌, length, drop, refl, sym, ap, ◌∙◌, append_assoc, append-nil}
 use Rattle.app_tree.specs.Tree.{Shape}
 use Rattle.session_model.specs.declared.event.Event.{Event}
-use Rattle.session_model.specs.Alone.{Course, first_course, after_event, texts_of_event, course_from, answers_from, answers, course_of}
-use Rattle.session_model.specs.Transcript.{added_texts}
+use Rattle.session_model.specs.EarlyAlone.{Course, first_course, after_event, texts_of_event, course_from, answers_from, answers, course_of}
+use Rattle.session_model.specs.EarlyTranscript.{added_texts}
 
 pub course_from-append : (app : Shape) (course : Course) (front back : List Event) → course_from app course (front ++ back) ≡ course_from app (course_from app course front) back
 course_from-append app course [] back = refl

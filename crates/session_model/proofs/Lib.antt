@@ -1,3 +1,4 @@
 pub mod Journals
 pub mod EarlyMessages
 pub mod TranscriptLines
+pub mod Expected

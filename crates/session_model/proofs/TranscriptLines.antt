@@ -1,7 +1,7 @@
 -- The lines of bytes, from their front.
 use Rattle.std.proofs.Common.{◌≡◌, ℕ, false, List, [], ◌∷◌, ◌++◌, refl, ap, ◌∙◌}
 use Rattle.std.specs.Prelude.{◌==◌, if◌then◌else◌}
-use Rattle.session_model.specs.Transcript.{HasNoFeed, with_byte, with_line_byte, lines_of}
+use Rattle.session_model.specs.Lines.{HasNoFeed, with_byte, with_line_byte, lines_of}
 
 no_feed_byte : (b : ℕ) (more : List (List ℕ)) → (b == 10) ≡ false → with_line_byte b more ≡ with_byte b more
 no_feed_byte b more e = ap (λ t. if t then [] ∷ more else with_byte b more) e

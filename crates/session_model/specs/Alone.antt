@@ -1,5 +1,5 @@
 -- A session run alone: its events one after the other, what each sends, and how the session ends.
-use Rattle.std.specs.Prelude.{ℕ, suc, Bool, true, false, List, [], ◌∷◌, ◌++◌, Option, Some, None}
+use Rattle.std.specs.Prelude.{ℕ, suc, ◌+◌, Bool, true, false, List, [], ◌∷◌, ◌++◌, Option, Some, None}
 use Rattle.shiny_json.specs.declared.message.Pair.{Pair}
 use Rattle.shiny_json.specs.declared.message.Client.{Client}
 use Rattle.shiny_json.specs.declared.message.Client.TheVariants.{Init, Update, Refused}
@@ -10,36 +10,42 @@ use Rattle.app_tree.specs.Tree.{Shape}
 use Rattle.session_model.specs.declared.event.Event.{Event}
 use Rattle.session_model.specs.declared.event.Event.TheVariants.{Text, Other, TaskEnd, End}
 use Rattle.session_model.specs.State.{SessionState, first_state}
-use Rattle.session_model.specs.Flush.{FlushEnd, done, budget_spent, Flushed, flush}
+use Rattle.session_model.specs.Change.{thaw}
 use Rattle.session_model.specs.Apply.{apply_pairs}
+use Rattle.session_model.specs.Tasks.{is_running, end_task}
+use Rattle.session_model.specs.Flush.{FlushEnd, done, budget_spent, observer_failed, Flushed, flush}
 use Rattle.session_model.specs.Texts.{first_texts, later_texts}
 
--- how a session ends: its link ended, a message was refused (its number among the client's items, from 1, and the cause), or a flush spent its budget
+-- how a session ends: its link ended, a message was refused (its number among the client's items, from 1, and the
+-- cause), a flush spent its budget, or an observer failed with a text
 pub data Ending : Type 0 where
   ended : Ending
   refused : ℕ → BadMessage → Ending
   spent : Ending
+  failed : List ℕ → Ending
 
--- how far a session has come
+-- how far a session has come: its state, whether the init was accepted, how many items the client sent, how many
+-- bodies were run, and how the session ended, if it did
 pub record Course : Type 0 where
   pub state : SessionState
   pub begun : Bool
   pub items : ℕ
+  pub bodies : ℕ
   pub ending : Option Ending
 
 abbrev pub first_course : Shape → Course
-first_course app = record { state = first_state app; begun = false; items = 0; ending = None }
+first_course app = record { state = first_state app; begun = false; items = 0; bodies = 0; ending = None }
 
--- what an event does
+-- what an event does; `flushes` says whether it is the init
 pub data Effect : Type 0 where
   flushes : Bool → Flushed → Effect
   refuses : BadMessage → Effect
   ends : Effect
   nothing : Effect
 
--- sets what the message sets, and flushes
+-- what is frozen thaws, the message sets what it sets, and then comes the flush
 abbrev pub applied : Shape → List Pair → SessionState → Flushed
-applied app pairs state = flush app (apply_pairs app pairs state)
+applied app pairs state = flush app (apply_pairs app pairs (thaw state))
 
 -- the init comes first, and once
 abbrev pub message_effect : Shape → Bool → SessionState → Client → Effect
@@ -49,11 +55,15 @@ message_effect app true state (Update pairs) = flushes false (applied app pairs 
 message_effect app false state (Update pairs) = refuses bad.EarlyUpdate
 message_effect app begun state (Refused cause) = refuses cause
 
--- no item of today starts a task, so none ends
+-- the same where the running invocation of task t ends; any other end is none
+abbrev pub task_effect : Bool → Shape → ℕ → SessionState → Effect
+task_effect true app t state = flushes false (flush app (end_task app t (thaw state)))
+task_effect false app t state = nothing
+
 abbrev pub event_effect : Shape → Course → Event → Effect
 event_effect app course (Text text) = message_effect app course.begun course.state (client_message text)
 event_effect app course Other = refuses bad.Other
-event_effect app course (TaskEnd task number) = nothing
+event_effect app course (TaskEnd t number) = task_effect (is_running t number course.state) app t course.state
 event_effect app course End = ends
 
 -- a session that is over does nothing more
@@ -67,6 +77,7 @@ effect app course event = effect_from app course course.ending event
 abbrev pub flush_ending : FlushEnd → Option Ending
 flush_ending done = None
 flush_ending budget_spent = Some spent
+flush_ending (observer_failed text) = Some (failed text)
 
 -- the items of the client are numbered from 1
 abbrev pub items_after : Event → ℕ → ℕ
@@ -75,7 +86,7 @@ items_after Other items = suc items
 items_after _ items = items
 
 abbrev pub course_after : Course → ℕ → Effect → Course
-course_after course items (flushes first flushed) = record { state = flushed.state; begun = true; items = items; ending = flush_ending flushed.end }
+course_after course items (flushes first flushed) = record { state = flushed.state; begun = true; items = items; bodies = course.bodies + flushed.bodies; ending = flush_ending flushed.end }
 course_after course items (refuses cause) = record course { items = items; ending = Some (refused items cause) }
 course_after course items ends = record course { items = items; ending = Some ended }
 course_after course items nothing = course
@@ -115,3 +126,7 @@ ending app journal = (course_of app journal).ending
 -- the session's state after the journal
 abbrev pub state_after : Shape → List Event → SessionState
 state_after app journal = (course_of app journal).state
+
+-- how many bodies of readers the journal runs
+abbrev pub bodies_run : Shape → List Event → ℕ
+bodies_run app journal = (course_of app journal).bodies

@@ -1,7 +1,8 @@
 -- A change of a source: setting it to the value that it has does nothing.
-use Rattle.std.specs.Prelude.{ℕ, Bool, true, ◌==◌, List, map, Option, Some, None, slice_set, if◌then◌else◌}
+use Rattle.std.specs.Prelude.{ℕ, suc, Bool, true, ◌==◌, List, [], ◌∷◌, map, Option, Some, None, slice_set, if◌then◌else◌}
 use Rattle.std.specs.List.{list_any}
 use Rattle.rx_value.specs.declared.source.SourceValue.{SourceValue}
+use Rattle.rx_value.specs.declared.source.SourceValue.TheVariants.{Plain, Frozen}
 use Rattle.rx_value.specs.Value.{source_eq}
 use Rattle.app_tree.specs.Current.{value_at}
 use Rattle.session_model.specs.declared.state.Dependencies.{Dependencies}
@@ -24,3 +25,24 @@ changed_to s x state = record state { values = slice_set state.values s x; reade
 
 abbrev pub change : ℕ → SourceValue → SessionState → SessionState
 change s x state = if source_eq (value_at state.values s) x then state else changed_to s x state
+
+-- ---- frozen inputs
+
+-- what a source becomes when its input is frozen; an input that is frozen stays so
+abbrev pub frozen : SourceValue → SourceValue
+frozen (Plain x) = Frozen x
+frozen other = other
+
+-- what a source becomes when it thaws; nothing else is frozen, so each other source keeps its value
+abbrev pub thawed : SourceValue → SourceValue
+thawed (Frozen x) = Plain x
+thawed other = other
+
+-- each source from number s on thaws
+abbrev pub thaw_from : ℕ → List SourceValue → SessionState → SessionState
+thaw_from s [] state = state
+thaw_from s (x ∷ more) state = thaw_from (suc s) more (change s (thawed x) state)
+
+-- each frozen input thaws, in rising number: that is a change of it
+abbrev pub thaw : SessionState → SessionState
+thaw state = thaw_from 0 state.values state

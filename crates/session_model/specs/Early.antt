@@ -11,7 +11,7 @@ use Rattle.shiny_json.specs.declared.message.Client.TheVariants.{Init, Update}
 use Rattle.shiny_json.specs.Client.{client_message, is_colon}
 use Rattle.app_tree.specs.Tree.{Shape}
 use Rattle.app_tree.specs.Numbering.{input_number}
-use Rattle.session_model.specs.Apply.{hidden_output}
+use Rattle.session_model.specs.EarlyApply.{hidden_output}
 
 abbrev pub is_whole : Data → Bool
 is_whole (number n) = is_some (as_i64 n)

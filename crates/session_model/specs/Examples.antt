@@ -4,8 +4,8 @@ use Rattle.rx_value.specs.declared.value.Value.TheVariants.{Int}
 use Rattle.app_tree.specs.declared.term.Read.TheVariants.{Input}
 use Rattle.app_tree.specs.Tree.{get, no_trees, Shown, input, text, Shape}
 use Rattle.session_model.specs.declared.event.Event.TheVariants.{Text}
-use Rattle.session_model.specs.Alone.{answers}
-use Rattle.session_model.specs.Transcript.{replayed, done, bad_line}
+use Rattle.session_model.specs.EarlyAlone.{answers}
+use Rattle.session_model.specs.EarlyTranscript.{replayed, done, bad_line}
 
 abbrev pub shows_n : Shown
 shows_n = record { priority = pos 0; while_hidden = false; keys = no_trees; body = get (Input 0) }

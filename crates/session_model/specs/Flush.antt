@@ -1,11 +1,16 @@
--- The flush: which readers wait, and their runs until none waits or the budget is spent.
-use Rattle.std.specs.Prelude.{ℕ, zero, suc, Bool, true, false, not, ◌&&◌, ◌||◌, List, [], ◌∷◌, ◌++◌, Option, Some, None, if◌then◌else◌}
+-- The flush: which readers wait, and their runs until none waits, the budget is spent or an observer fails.
+use Rattle.std.specs.Prelude.{ℕ, zero, suc, ◌+◌, ℤ, pos, Bool, true, false, not, ◌&&◌, ◌||◌, List, [], ◌∷◌, ◌++◌, Option, Some, None, option_map, int_lt, if◌then◌else◌}
 use Rattle.rx_value.specs.declared.outcome.Outcome.{Outcome}
+use Rattle.rx_value.specs.declared.outcome.Outcome.TheVariants.{Fail}
+use Rattle.shiny_json.specs.declared.message.Pair.{Pair}
 use Rattle.app_tree.specs.Tree.{Node, text, plot, observe, on, Shape}
-use Rattle.app_tree.specs.Numbering.{readers}
+use Rattle.app_tree.specs.Numbering.{readers, reader, is_observer}
 use Rattle.session_model.specs.declared.state.ReaderState.{ReaderState}
-use Rattle.session_model.specs.State.{SessionState, reader_state, is_alive}
-use Rattle.session_model.specs.Run.{Ran, run_reader, with_reader}
+use Rattle.session_model.specs.State.{SessionState, reader_state, with_reader, is_alive}
+use Rattle.session_model.specs.Run.{Ran, run_reader}
+use Rattle.session_model.specs.Observing.{Acted, run_observer}
+
+-- ---- who waits
 
 -- observers run by themselves, and outputs where they are shown or run while they are hidden; nobody waits for anything else
 abbrev pub is_wanted : Node → ReaderState → Bool
@@ -19,52 +24,116 @@ is_wanted _ r = false
 abbrev pub is_waiting : Node → ReaderState → Bool
 is_waiting i r = is_wanted i r && not (is_alive r)
 
--- the first that waits, where the first of these readers has number n
-abbrev pub waiting_from : ℕ → List Node → List ReaderState → Option ℕ
-waiting_from n (i ∷ more) (r ∷ rs) = if is_waiting i r then Some n else waiting_from (suc n) more rs
+abbrev pub priority_of : Node → ℤ
+priority_of (text name output) = output.priority
+priority_of (plot name output) = output.priority
+priority_of (observe name priority block) = priority
+priority_of (on name priority flags e block) = priority
+priority_of _ = pos 0
+
+-- a reader that waits
+pub record Waiting : Type 0 where
+  pub number : ℕ
+  pub priority : ℤ
+
+-- the one of higher priority, and at equal ones the first
+abbrev pub first_of : Waiting → Option Waiting → Waiting
+first_of w None = w
+first_of w (Some other) = if int_lt w.priority other.priority then other else w
+
+abbrev pub and_later : Bool → Waiting → Option Waiting → Option Waiting
+and_later true w later = Some (first_of w later)
+and_later false w later = later
+
+-- of the readers that wait the one of highest priority, and of these the one of least number, where the first of these
+-- readers has number n
+abbrev pub waiting_from : ℕ → List Node → List ReaderState → Option Waiting
+waiting_from n (i ∷ more) (r ∷ rs) = and_later (is_waiting i r) (record { number = n; priority = priority_of i }) (waiting_from (suc n) more rs)
 waiting_from n _ _ = None
 
--- of the readers that wait, the one of least number; no app of today has priorities
 abbrev pub next_waiting : Shape → SessionState → Option ℕ
-next_waiting app state = waiting_from 0 (readers app) state.readers
+next_waiting app state = option_map (λ w. w.number) (waiting_from 0 (readers app) state.readers)
 
--- one run that the flush made
+-- ---- the runs
+
+-- one run that the flush made, of an output or of an observer, with the input messages of an observer
 pub record Run : Type 0 where
   pub number : ℕ
   pub outcome : Outcome
+  pub messages : List Pair
 
+-- a run, and the session's state and the number of bodies that were run behind it
+pub record Made : Type 0 where
+  pub state : SessionState
+  pub bodies : ℕ
+  pub run : Run
+
+abbrev pub with_last : ℕ → Outcome → SessionState → SessionState
+with_last n outcome state = with_reader n (record (reader_state state n) { last = Some outcome }) state
+
+-- an output's outcome becomes its last outcome
+abbrev pub output_made : ℕ → Ran → Made
+output_made n ran = record { state = with_last n ran.outcome ran.state; bodies = ran.bodies; run = record { number = n; outcome = ran.outcome; messages = [] } }
+
+abbrev pub observer_made : ℕ → Acted → Made
+observer_made n a = record { state = a.state; bodies = a.bodies; run = record { number = n; outcome = a.outcome; messages = a.messages } }
+
+abbrev pub is_observer_at : Option Node → Bool
+is_observer_at (Some i) = is_observer i
+is_observer_at None = false
+
+abbrev pub make_by : Bool → Shape → ℕ → SessionState → Made
+make_by true app n state = observer_made n (run_observer app n state)
+make_by false app n state = output_made n (run_reader app n state)
+
+abbrev pub make_run : Shape → ℕ → SessionState → Made
+make_run app n state = make_by (is_observer_at (reader app n)) app n state
+
+-- ---- the flush
+
+-- no reader waits, the budget is spent and one still waits, or an observer failed with a text
 pub data FlushEnd : Type 0 where
   done : FlushEnd
   budget_spent : FlushEnd
+  observer_failed : List ℕ → FlushEnd
 
 pub record Flushed : Type 0 where
   pub state : SessionState
   pub runs : List Run
+  pub bodies : ℕ
   pub end : FlushEnd
 
--- an output's outcome becomes its last outcome
-abbrev pub with_last : ℕ → Ran → SessionState
-with_last n ran = with_reader n (record (reader_state ran.state n) { last = Some ran.outcome }) ran.state
+-- the failure of an observer
+abbrev pub failure_by : Bool → Outcome → Option (List ℕ)
+failure_by true (Fail why) = Some why
+failure_by _ outcome = None
 
-abbrev pub run_of : ℕ → Ran → Run
-run_of n ran = record { number = n; outcome = ran.outcome }
+abbrev pub failure_of : Shape → Run → Option (List ℕ)
+failure_of app run = failure_by (is_observer_at (reader app run.number)) run.outcome
 
--- after the run of reader n the flush goes on
-abbrev pub after_run : (SessionState → List Run → Flushed) → List Run → ℕ → Ran → Flushed
-after_run go_on runs n ran = go_on (with_last n ran) (runs ++ run_of n ran ∷ [])
+abbrev pub flushed_to : FlushEnd → SessionState → List Run → ℕ → Flushed
+flushed_to end state runs bodies = record { state = state; runs = runs; bodies = bodies; end = end }
 
-abbrev pub flush_step : Shape → (SessionState → List Run → Flushed) → SessionState → List Run → Option ℕ → Flushed
-flush_step app go_on state runs None = record { state = state; runs = runs; end = done }
-flush_step app go_on state runs (Some n) = after_run go_on runs n (run_reader app n state)
+abbrev pub after_failure : Option (List ℕ) → (SessionState → List Run → ℕ → Flushed) → SessionState → List Run → ℕ → Flushed
+after_failure None go_on state runs bodies = go_on state runs bodies
+after_failure (Some why) go_on state runs bodies = flushed_to (observer_failed why) state runs bodies
+
+-- after the run the flush goes on, unless an observer failed
+abbrev pub after_run : Shape → (SessionState → List Run → ℕ → Flushed) → List Run → ℕ → Made → Flushed
+after_run app go_on runs bodies made = after_failure (failure_of app made.run) go_on made.state (runs ++ made.run ∷ []) (bodies + made.bodies)
+
+abbrev pub flush_step : Shape → (SessionState → List Run → ℕ → Flushed) → SessionState → List Run → ℕ → Option ℕ → Flushed
+flush_step app go_on state runs bodies None = flushed_to done state runs bodies
+flush_step app go_on state runs bodies (Some n) = after_run app go_on runs bodies (make_run app n state)
 
 abbrev pub flush_end : Option ℕ → FlushEnd
 flush_end None = done
 flush_end (Some n) = budget_spent
 
 -- after these runs, with so many left of the budget
-abbrev pub flush_from : Shape → ℕ → SessionState → List Run → Flushed
-flush_from app zero state runs = record { state = state; runs = runs; end = flush_end (next_waiting app state) }
-flush_from app (suc left) state runs = flush_step app (flush_from app left) state runs (next_waiting app state)
+abbrev pub flush_from : Shape → ℕ → SessionState → List Run → ℕ → Flushed
+flush_from app zero state runs bodies = flushed_to (flush_end (next_waiting app state)) state runs bodies
+flush_from app (suc left) state runs bodies = flush_step app (flush_from app left) state runs bodies (next_waiting app state)
 
 abbrev pub flush : Shape → SessionState → Flushed
-flush app state = flush_from app app.budget state []
+flush app state = flush_from app app.budget state [] 0

@@ -1,109 +1,116 @@
--- A transcript of client messages, and the output that its replay writes.
-use Rattle.std.specs.Prelude.{◌≡◌, ⊤, ℕ, suc, ◌==◌, Bool, true, false, ◌&&◌, ◌||◌, nat_le, nat_lt, List, [], ◌∷◌, ◌++◌, length, drop, Option, Some, None, codes, bytes_eq, decimal, if◌then◌else◌}
-use Rattle.std.specs.List.{before_first, after_first, list_all, position_or_len}
+-- A transcript of the messages of several sessions, and the output that its replay writes.
+use Rattle.std.specs.Prelude.{ℕ, suc, ◌+◌, ◌==◌, Bool, true, false, ◌&&◌, ◌||◌, nat_le, nat_lt, List, [], ◌∷◌, ◌++◌, length, take, drop, filter, Option, Some, None, is_some, codes, bytes_eq, decimal, if◌then◌else◌}
+use Rattle.std.specs.List.{before_first, after_first}
 use Rattle.std.specs.Str.{is_utf8}
-use Rattle.std.specs.Char.{is_ascii_alphanumeric}
-use Rattle.shiny_json.specs.declared.message.Pair.{Pair}
-use Rattle.shiny_json.specs.declared.message.BadMessage.{BadMessage}
-use Rattle.shiny_json.specs.declared.message.BadMessage.TheVariants as bad
-use Rattle.app_tree.specs.Tree.{Shape}
+use Rattle.serde_json.specs.Data.{string}
+use Rattle.serde_json.specs.Written.{compact_text}
+use Rattle.task_board.specs.declared.job.Invocation.{Invocation}
+use Rattle.task_board.specs.Board.{board_at, running_number}
+use Rattle.app_tree.specs.Tree.{Node, Shape}
+use Rattle.app_tree.specs.Numbering.{is_task, number_from}
 use Rattle.session_model.specs.declared.event.Event.{Event}
-use Rattle.session_model.specs.declared.event.Event.TheVariants.{Text, End}
-use Rattle.session_model.specs.Alone.{Ending, ended, refused, spent, answers, ending}
-use Rattle.session_model.specs.Early.{early_pairs}
+use Rattle.session_model.specs.declared.event.Event.TheVariants.{Text, Other, TaskEnd, End}
+use Rattle.session_model.specs.Alone.{Ending, ended, refused, spent, failed, answers, ending, state_after}
+use Rattle.session_model.specs.Lines.{line_limit, lines_of, is_space, is_label, has_space}
+use Rattle.session_model.specs.Output.{cause_name, send_lines, over_text}
 
 -- ---- lines
 
-abbrev pub with_byte : ℕ → List (List ℕ) → List (List ℕ)
-with_byte b [] = (b ∷ []) ∷ []
-with_byte b (line ∷ more) = (b ∷ line) ∷ more
+-- the most bytes of a transcript
+abbrev pub transcript_limit : ℕ
+transcript_limit = 67108864
 
-abbrev pub with_line_byte : ℕ → List (List ℕ) → List (List ℕ)
-with_line_byte b more = if b == 10 then [] ∷ more else with_byte b more
+-- the most names of sessions
+abbrev pub session_limit : ℕ
+session_limit = 64
 
--- the lines, each ended by a line feed; a last one without it counts where it isn't empty
-abbrev pub lines_of : List ℕ → List (List ℕ)
-lines_of [] = []
-lines_of (b ∷ bs) = with_line_byte b (lines_of bs)
+abbrev pub is_feed : ℕ → Bool
+is_feed b = b == 10
 
--- no line feed among the bytes
-abbrev pub HasNoFeed : List ℕ → Type 0
-HasNoFeed [] = ⊤
-HasNoFeed (b ∷ bs) = ((b == 10) ≡ false) × HasNoFeed bs
+-- the number of the line that holds the first byte past the limit, with its line feed counted as its own
+abbrev pub line_past_limit : List ℕ → Option ℕ
+line_past_limit bytes =
+    if nat_lt transcript_limit (length bytes) then Some (suc (length (filter is_feed (take transcript_limit bytes)))) else None
 
--- the most bytes of a line, without its line feed
-abbrev pub line_limit : ℕ
-line_limit = 70000
-
--- the most lines that are taken today
-abbrev pub line_count_limit : ℕ
-line_count_limit = 200
-
-abbrev pub is_space : ℕ → Bool
-is_space b = b == 32
-
-abbrev pub is_label_byte : ℕ → Bool
-is_label_byte b = is_ascii_alphanumeric b || (b == 95)
-
--- 1 to 32 ASCII letters, digits and `_`
-abbrev pub is_label : List ℕ → Bool
-is_label name = nat_lt 0 (length name) && nat_le (length name) 32 && list_all is_label_byte name
-
--- `S recv TEXT`: a client message for session S
+-- a client message for a session, the end of what runs of a task of it, or the end of its link
 pub data Line : Type 0 where
   recv : List ℕ → List ℕ → Line
+  ends : List ℕ → ℕ → Line
+  closes : List ℕ → Line
 
--- a space stands somewhere
-abbrev pub has_space : List ℕ → Bool
-has_space bytes = nat_lt (position_or_len is_space bytes) (length bytes)
+-- by number among the tasks
+abbrev pub task_named : List ℕ → List Node → Option ℕ
+task_named name items = number_from is_task is_task 0 name items
 
--- the text is all that stands behind `recv` and one space, and may be empty
-abbrev pub recv_of : List ℕ → List ℕ → Option Line
-recv_of label rest = if has_space rest && bytes_eq (before_first is_space rest) (codes "recv") then Some (recv label (after_first is_space rest)) else None
+abbrev pub ends_of : List ℕ → Option ℕ → Option Line
+ends_of label None = None
+ends_of label (Some t) = Some (ends label t)
 
-abbrev pub parts_of : List ℕ → Option Line
-parts_of line = if has_space line && is_label (before_first is_space line) then recv_of (before_first is_space line) (after_first is_space line) else None
+-- by the word behind the label, and what follows one space behind it, which may be empty
+abbrev pub line_by : List Node → List ℕ → List ℕ → List ℕ → Option Line
+line_by items label word rest =
+    if bytes_eq word (codes "recv") then Some (recv label rest) else (if bytes_eq word (codes "end") then ends_of label (task_named rest items) else None)
+
+-- behind the label and a space
+abbrev pub line_behind : List Node → List ℕ → List ℕ → Option Line
+line_behind items label rest =
+    if has_space rest
+    then line_by items label (before_first is_space rest) (after_first is_space rest)
+    else (if bytes_eq rest (codes "close") then Some (closes label) else None)
+
+abbrev pub parts_of : List Node → List ℕ → Option Line
+parts_of items line =
+    if has_space line && is_label (before_first is_space line) then line_behind items (before_first is_space line) (after_first is_space line) else None
 
 -- what a line says; None where it has no such form
-abbrev pub line_of : List ℕ → Option Line
-line_of line = if nat_le (length line) line_limit && is_utf8 line then parts_of line else None
+abbrev pub line_of : List Node → List ℕ → Option Line
+line_of items line = if nat_le (length line) line_limit && is_utf8 line then parts_of items line else None
+
+-- ---- sessions
+
+-- a session of the transcript: its own journal, and whether it is over since its journal was full
+pub record Open : Type 0 where
+  pub label : List ℕ
+  pub journal : List Event
+  pub full : Bool
+
+abbrev pub opened : List ℕ → Open
+opened label = record { label = label; journal = []; full = false }
+
+abbrev pub is_over : Shape → Open → Bool
+is_over app s = s.full || is_some (ending app s.journal)
+
+abbrev pub session_of : List ℕ → List Open → Option Open
+session_of label [] = None
+session_of label (s ∷ more) = if bytes_eq label s.label then Some s else session_of label more
+
+-- this session in the place of the one of its label, or behind all others
+abbrev pub with_session : Open → List Open → List Open
+with_session s [] = s ∷ []
+with_session s (other ∷ more) = if bytes_eq s.label other.label then s ∷ more else other ∷ with_session s more
+
+-- the bytes of the client's texts
+abbrev pub text_bytes : List Event → ℕ
+text_bytes [] = 0
+text_bytes (Text t ∷ more) = length t + text_bytes more
+text_bytes (event ∷ more) = text_bytes more
+
+-- 250,000 events, or texts of more than 16,777,216 bytes
+abbrev pub is_full : List Event → Bool
+is_full journal = nat_le 250000 (length journal) || nat_lt 16777216 (text_bytes journal)
 
 -- ---- output
-
-abbrev pub cause_name : BadMessage → List ℕ
-cause_name bad.TooLong = codes "TooLong"
-cause_name bad.NotJson = codes "NotJson"
-cause_name bad.NotObject = codes "NotObject"
-cause_name bad.NoMethod = codes "NoMethod"
-cause_name bad.BadMethod = codes "BadMethod"
-cause_name bad.NoData = codes "NoData"
-cause_name bad.EarlyUpdate = codes "EarlyUpdate"
-cause_name bad.SecondInit = codes "SecondInit"
-cause_name bad.Other = codes "Other"
 
 abbrev pub ending_text : Ending → List ℕ
 ending_text ended = codes "ended"
 ending_text (refused k cause) = codes "refused " ++ decimal k ++ codes " " ++ cause_name cause
 ending_text spent = codes "budget"
-
--- `S send TEXT` for each text
-abbrev pub send_lines : List ℕ → List (List ℕ) → List ℕ
-send_lines label [] = []
-send_lines label (text ∷ more) = (label ++ codes " send " ++ text ++ codes "\n") ++ send_lines label more
-
--- `S over REASON`
-abbrev pub over_text : List ℕ → List ℕ → List ℕ
-over_text label reason = label ++ codes " over " ++ reason ++ codes "\n"
+ending_text (failed t) = codes "observer " ++ compact_text (string t)
 
 -- that line, where the session has ended
 abbrev pub over_line : List ℕ → Option Ending → List ℕ
 over_line label None = []
 over_line label (Some end) = over_text label (ending_text end)
-
--- a session of the transcript, with its own journal
-pub record Open : Type 0 where
-  pub label : List ℕ
-  pub journal : List Event
 
 abbrev pub with_event : Event → Open → Open
 with_event event s = record s { journal = s.journal ++ event ∷ [] }
@@ -114,15 +121,31 @@ added_texts app label journal longer = drop (length (answers app label journal))
 
 -- what a session's event writes: the texts that it adds, then the over line where the session has ended
 abbrev pub event_output : Shape → Event → Open → List ℕ
-event_output app event s = send_lines s.label (added_texts app s.label s.journal (with_event event s).journal) ++ over_line s.label (ending app (with_event event s).journal)
+event_output app event s =
+    send_lines s.label (added_texts app s.label s.journal (with_event event s).journal) ++ over_line s.label (ending app (with_event event s).journal)
+
+-- a session behind an event, and what was written
+pub record Stepped : Type 0 where
+  pub output : List ℕ
+  pub session : Open
+
+-- a session whose journal is full is over in place of the event
+abbrev pub step_by : Bool → Shape → Event → Open → Stepped
+step_by true app event s = record { output = over_text s.label (codes "journal"); session = record s { full = true } }
+step_by false app event s = record { output = event_output app event s; session = with_event event s }
+
+abbrev pub step : Shape → Event → Open → Stepped
+step app event s = step_by (is_full s.journal) app event s
 
 -- ---- the replay
 
--- all lines were taken, or the first that was refused, by its number from 1
+-- all lines were taken, or the first that was refused, by its number from 1: it has no form, there is no open session
+-- of its name, or its task does not run
 pub data ReplayEnd : Type 0 where
   done : ReplayEnd
   bad_line : ℕ → ReplayEnd
   no_session : ℕ → ReplayEnd
+  not_running : ℕ → ReplayEnd
 
 pub record Replayed : Type 0 where
   pub output : List ℕ
@@ -134,47 +157,73 @@ stopped end = record { output = []; end = end }
 abbrev pub after_output : List ℕ → Replayed → Replayed
 after_output before r = record r { output = before ++ r.output }
 
--- at the end of the input the links of the open sessions end
-abbrev pub closing_output : Shape → Open → Option Ending → List ℕ
-closing_output app s None = event_output app End s
-closing_output app s (Some end) = []
+-- what follows, where the sessions have come so far
+abbrev pub Rest : Type 0
+Rest = List Open → Replayed
 
-abbrev pub closed : Shape → Option Open → Replayed
-closed app None = stopped done
-closed app (Some s) = record { output = closing_output app s (ending app s.journal); end = done }
+abbrev pub stepped : List Open → Stepped → Rest → Replayed
+stepped sessions after next = after_output after.output (next (with_session after.session sessions))
 
--- the first message of a label opens its session; today a transcript has one label
-abbrev pub opened : List ℕ → Option Open → Open
-opened label None = record { label = label; journal = [] }
-opened label (Some s) = s
+-- an event of a session that is there and not over
+abbrev pub taken : Shape → ℕ → List Open → Event → Open → Bool → Rest → Replayed
+taken app k sessions event s true next = stopped (no_session k)
+taken app k sessions event s false next = stepped sessions (step app event s) next
 
-abbrev pub is_first : Option Open → Bool
-is_first None = true
-is_first (Some s) = false
+-- a 65th name opens no session
+abbrev pub opens : Bool → Shape → ℕ → List Open → Event → List ℕ → Rest → Replayed
+opens true app k sessions event label next = stopped (no_session k)
+opens false app k sessions event label next = stepped sessions (step app event (opened label)) next
 
--- the session that a line's message is for has ended already, or takes it
-abbrev pub received : Shape → ℕ → Event → Open → Option Ending → (Option Open → Replayed) → Replayed
-received app k event s None next = after_output (event_output app event s) (next (Some (with_event event s)))
-received app k event s (Some end) next = stopped (no_session k)
+-- the first message of a name opens its session
+abbrev pub received : Shape → ℕ → List Open → Event → List ℕ → Option Open → Rest → Replayed
+received app k sessions event label None next = opens (nat_le session_limit (length sessions)) app k sessions event label next
+received app k sessions event label (Some s) next = taken app k sessions event s (is_over app s) next
 
--- a message that has the form of today
-abbrev pub if_early : Shape → ℕ → List ℕ → Open → Option (List Pair) → (Option Open → Replayed) → Replayed
-if_early app k text s None next = stopped (bad_line k)
-if_early app k text s (Some pairs) next = received app k (Text text) s (ending app s.journal) next
+abbrev pub closed : Shape → ℕ → List Open → Option Open → Rest → Replayed
+closed app k sessions None next = stopped (no_session k)
+closed app k sessions (Some s) next = taken app k sessions End s (is_over app s) next
 
-abbrev pub is_taken : ℕ → List ℕ → Open → Bool
-is_taken k label s = nat_le k line_count_limit && bytes_eq label s.label
+-- the running invocation ends
+abbrev pub task_ended : Shape → ℕ → List Open → ℕ → Open → Option ℕ → Rest → Replayed
+task_ended app k sessions t s None next = stopped (not_running k)
+task_ended app k sessions t s (Some number) next = stepped sessions (step app (TaskEnd t number) s) next
 
-abbrev pub replay_line : Shape → ℕ → Option Open → Option Line → (Option Open → Replayed) → Replayed
-replay_line app k session None next = stopped (bad_line k)
-replay_line app k session (Some (recv label text)) next =
-    if is_taken k label (opened label session) then if_early app k text (opened label session) (early_pairs app (is_first session) text) next else stopped (bad_line k)
+abbrev pub task_end_of : Shape → ℕ → List Open → ℕ → Open → Bool → Rest → Replayed
+task_end_of app k sessions t s true next = stopped (no_session k)
+task_end_of app k sessions t s false next = task_ended app k sessions t s (running_number (board_at (state_after app s.journal).boards t)) next
 
--- these lines, the first of which has number k, where the session of the transcript has come so far
-abbrev pub replay_from : Shape → ℕ → Option Open → List (List ℕ) → Replayed
-replay_from app k session [] = closed app session
-replay_from app k session (line ∷ more) = replay_line app k session (line_of line) (λ next. replay_from app (suc k) next more)
+abbrev pub ended_in : Shape → ℕ → List Open → ℕ → Option Open → Rest → Replayed
+ended_in app k sessions t None next = stopped (no_session k)
+ended_in app k sessions t (Some s) next = task_end_of app k sessions t s (is_over app s) next
+
+abbrev pub replay_line : Shape → ℕ → List Open → Option Line → Rest → Replayed
+replay_line app k sessions None next = stopped (bad_line k)
+replay_line app k sessions (Some (recv label t)) next = received app k sessions (Text t) label (session_of label sessions) next
+replay_line app k sessions (Some (ends label t)) next = ended_in app k sessions t (session_of label sessions) next
+replay_line app k sessions (Some (closes label)) next = closed app k sessions (session_of label sessions) next
+
+abbrev pub closing_output : Shape → Open → Bool → List ℕ
+closing_output app s true = []
+closing_output app s false = (step app End s).output
+
+-- at the end of the input the links of all open sessions end, in the order in which they were opened
+abbrev pub all_closed : Shape → List Open → List ℕ
+all_closed app [] = []
+all_closed app (s ∷ more) = closing_output app s (is_over app s) ++ all_closed app more
+
+abbrev pub is_line : ℕ → Option ℕ → Bool
+is_line k None = false
+is_line k (Some j) = k == j
+
+-- what line k says, unless it is the one that goes past the limit of the transcript
+abbrev pub said_by : Shape → ℕ → Option ℕ → List ℕ → Option Line
+said_by app k past line = if is_line k past then None else line_of app.items line
+
+-- these lines, the first of which has number k; `past` is the number of the line that goes past the limit
+abbrev pub replay_from : Shape → ℕ → Option ℕ → List Open → List (List ℕ) → Replayed
+replay_from app k past sessions [] = record { output = all_closed app sessions; end = done }
+replay_from app k past sessions (line ∷ more) = replay_line app k sessions (said_by app k past line) (λ next. replay_from app (suc k) past next more)
 
 -- the output of a transcript's replay, and how it ends
 abbrev pub replayed : Shape → List ℕ → Replayed
-replayed app bytes = replay_from app 1 None (lines_of bytes)
+replayed app bytes = replay_from app 1 (line_past_limit bytes) [] (lines_of bytes)

@@ -6,9 +6,10 @@ use Rattle.shiny_json.specs.declared.message.Pair.{Pair}
 use Rattle.shiny_json.specs.declared.message.Client.TheVariants.{Update}
 use Rattle.shiny_json.specs.Client.{client_message}
 use Rattle.session_model.specs.declared.event.Event.TheVariants.{Text}
-use Rattle.session_model.specs.Flush.{Flushed as FlushResult}
-use Rattle.session_model.specs.Alone.{Course, flushes, effect, effect_texts, effect_from, message_effect, course_after, flush_ending, applied, course_of, ending}
-use Rattle.session_model.specs.Transcript.{Open, with_event, event_output, send_lines, over_line, added_texts}
+use Rattle.session_model.specs.EarlyFlush.{Flushed as FlushResult}
+use Rattle.session_model.specs.EarlyAlone.{Course, flushes, effect, effect_texts, effect_from, message_effect, course_after, flush_ending, applied, course_of, ending}
+use Rattle.session_model.specs.EarlyTranscript.{Open, with_event, event_output, over_line, added_texts}
+use Rattle.session_model.specs.Output.{send_lines}
 use Rattle.session_model.proofs.Journals.{course_of-more, added_texts-more}
 use Rattle.flush_cycle.specs.declared.stage.Stage.TheVariants as stage
 use Rattle.flush_cycle.specs.Flushing.{FlushGives, flushed_by, stage_after}

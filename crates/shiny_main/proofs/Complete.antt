@@ -10,7 +10,7 @@ use Rattle.app_check.specs.declared.error.LoadError.{LoadError}
 use Rattle.app_check.specs.Load.{loaded}
 use Rattle.app_printer.specs.Canonical.{canonical_text}
 use Rattle.flush_cycle.specs.Built.{first_unbuilt}
-use Rattle.session_model.specs.Transcript.{ReplayEnd, done, bad_line, no_session, replayed}
+use Rattle.session_model.specs.EarlyTranscript.{ReplayEnd, done, bad_line, no_session, replayed}
 use Rattle.shiny_main.specs.declared.words.Command.{Command}
 use Rattle.shiny_main.specs.declared.words.Command.TheVariants as command
 use Rattle.shiny_main.specs.declared.status.Status.{Status}

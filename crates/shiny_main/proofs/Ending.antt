@@ -13,7 +13,7 @@ use Rattle.app_check.specs.declared.error.LoadError.{LoadError}
 use Rattle.app_check.specs.declared.error.LoadError.TheVariants as error
 use Rattle.app_check.specs.Load.{loaded, within_limit, is_short}
 use Rattle.flush_cycle.specs.Built.{first_unbuilt}
-use Rattle.session_model.specs.Transcript.{ReplayEnd, done, bad_line, no_session, Replayed, replay_from, replayed}
+use Rattle.session_model.specs.EarlyTranscript.{ReplayEnd, done, bad_line, no_session, Replayed, replay_from, replayed}
 use Rattle.shiny_main.specs.declared.words.Command.{Command}
 use Rattle.shiny_main.specs.declared.words.Command.TheVariants as command
 use Rattle.shiny_main.specs.declared.ended.Ended.{Ended}

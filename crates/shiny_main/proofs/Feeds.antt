@@ -2,7 +2,7 @@
 use Rattle.std.proofs.Common.{◌≡◌, ℕ, suc, ◌+◌, ◌<◌, ◌≤◌, Bool, true, false, not, cond, List, [], ◌∷◌, ◌++◌, length, take, drop, refl, sym, ap, ◌∙◌, subst, arith, Some, None}
 use Rattle.std.specs.Prelude.{◌==◌, nat_lt, position}
 use Rattle.std.proofs.lemmas.Bool.Decides.{nat_tests}
-use Rattle.session_model.specs.Transcript.{HasNoFeed}
+use Rattle.session_model.specs.Lines.{HasNoFeed}
 use Rattle.shiny_main.specs.Lines.{is_feed, feed_place}
 
 -- one step of the search, by whether a feed stands first

@@ -5,7 +5,7 @@ use Rattle.std.proofs.lemmas.Bool.Decides.{nat_tests}
 use Rattle.std.specs.Option.{option_map}
 use Rattle.std.specs.Io.KnownBytes.{prepend_known, IsAtEnd}
 use Rattle.rx_ports.proofs.Contents.{prepend_known-append}
-use Rattle.session_model.specs.Transcript.{HasNoFeed, lines_of, line_limit}
+use Rattle.session_model.specs.Lines.{HasNoFeed, lines_of, line_limit}
 use Rattle.session_model.proofs.TranscriptLines.{HasNoFeed-append, lines_of-feed, lines_of-last, lines_of-begun}
 use Rattle.shiny_main.specs.declared.lines.Step.{Step}
 use Rattle.shiny_main.specs.declared.lines.Step.TheVariants as step

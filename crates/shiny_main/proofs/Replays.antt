@@ -4,7 +4,7 @@ use Rattle.std.specs.Option.{option_map}
 use Rattle.std.specs.Io.KnownBytes.{append_known}
 use Rattle.rx_ports.proofs.Contents.{append_known-append}
 use Rattle.app_tree.specs.Tree.{Shape}
-use Rattle.session_model.specs.Transcript.{Open, ReplayEnd, done, bad_line, no_session, Replayed, after_output, replay_from}
+use Rattle.session_model.specs.EarlyTranscript.{Open, ReplayEnd, done, bad_line, no_session, Replayed, after_output, replay_from}
 use Rattle.shiny_main.specs.declared.session.OpenSession.{OpenSession}
 use Rattle.shiny_main.specs.declared.transcript.Replayed.{Replayed as ReplayAnswer}
 use Rattle.shiny_main.specs.declared.transcript.Replayed.TheVariants as answer

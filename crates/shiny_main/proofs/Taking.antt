@@ -5,9 +5,9 @@ use Rattle.std.proofs.lemmas.Bool.Decides.{nat_tests}
 use Rattle.app_tree.specs.Tree.{Shape}
 use Rattle.shiny_json.specs.declared.message.Pair.{Pair}
 use Rattle.session_model.specs.declared.event.Event.TheVariants.{Text}
-use Rattle.session_model.specs.Alone.{Ending, spent, ending, course_of}
+use Rattle.session_model.specs.EarlyAlone.{Ending, spent, ending, course_of}
 use Rattle.session_model.specs.Early.{early_pairs}
-use Rattle.session_model.specs.Transcript.{Open, with_event, event_output, recv, Replayed, stopped, bad_line, after_output, received, if_early, is_taken, line_count_limit}
+use Rattle.session_model.specs.EarlyTranscript.{Open, with_event, event_output, recv, Replayed, stopped, bad_line, after_output, received, if_early, is_taken, line_count_limit}
 use Rattle.session_model.proofs.EarlyMessages.{early_init, early_update}
 use Rattle.flush_cycle.specs.declared.stage.Stage.{Stage}
 use Rattle.flush_cycle.specs.declared.stage.Stage.TheVariants as stage

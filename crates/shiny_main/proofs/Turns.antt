@@ -7,8 +7,10 @@ use Rattle.std.specs.Str.{is_utf8}
 use Rattle.std.specs.Io.KnownBytes.{append_known, IsAtEnd}
 use Rattle.app_tree.specs.Tree.{Shape}
 use Rattle.session_model.specs.declared.event.Event.TheVariants.{End}
-use Rattle.session_model.specs.Alone.{Course, ended, spent, effect_from, effect_texts, course_after, ending, course_of}
-use Rattle.session_model.specs.Transcript.{Open, with_event, event_output, send_lines, over_text, over_line, added_texts, line_limit, line_of, parts_of, ReplayEnd, done, bad_line, no_session, Replayed, stopped, after_output, closing_output, closed, replay_line, replay_from}
+use Rattle.session_model.specs.EarlyAlone.{Course, ended, spent, effect_from, effect_texts, course_after, ending, course_of}
+use Rattle.session_model.specs.EarlyTranscript.{Open, with_event, event_output, over_line, added_texts, line_of, parts_of, ReplayEnd, done, bad_line, no_session, Replayed, stopped, after_output, closing_output, closed, replay_line, replay_from}
+use Rattle.session_model.specs.Lines.{line_limit}
+use Rattle.session_model.specs.Output.{send_lines, over_text}
 use Rattle.session_model.proofs.Journals.{course_of-more, added_texts-more}
 use Rattle.flush_cycle.specs.declared.stage.Stage.{Stage}
 use Rattle.flush_cycle.specs.declared.stage.Stage.TheVariants as stage

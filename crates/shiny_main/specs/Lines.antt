@@ -3,7 +3,7 @@ use Rattle.std.specs.Prelude.{◌≡◌, ◌==◌, ℕ, ◌+◌, ◌<◌, ◌≤
 use Rattle.std.specs.Option.{option_map}
 use Rattle.std.specs.Io.KnownBytes.{prepend_known, IsAtEnd}
 use Rattle.std.specs.List.{position_or_len}
-use Rattle.session_model.specs.Transcript.{HasNoFeed, lines_of, line_limit}
+use Rattle.session_model.specs.Lines.{HasNoFeed, lines_of, line_limit}
 use Rattle.shiny_main.specs.declared.lines.Step.{Step}
 use Rattle.shiny_main.specs.declared.lines.Step.TheVariants as step
 use Rattle.shiny_main.specs.declared.lines.NextLine.{NextLine}

@@ -11,8 +11,9 @@ use Rattle.shiny_json.specs.declared.message.Pair.{Pair}
 use Rattle.shiny_json.specs.declared.message.Client.TheVariants.{Init, Update}
 use Rattle.shiny_json.specs.Client.{client_message}
 use Rattle.session_model.specs.declared.event.Event.TheVariants.{Text}
-use Rattle.session_model.specs.Alone.{Ending, spent, course_of}
-use Rattle.session_model.specs.Transcript.{send_lines, over_text, Open, with_event, event_output, Line, ReplayEnd, done, bad_line, no_session, Replayed, stopped, after_output, replay_line, replay_from, line_count_limit}
+use Rattle.session_model.specs.EarlyAlone.{Ending, spent, course_of}
+use Rattle.session_model.specs.EarlyTranscript.{Open, with_event, event_output, Line, ReplayEnd, done, bad_line, no_session, Replayed, stopped, after_output, replay_line, replay_from, line_count_limit}
+use Rattle.session_model.specs.Output.{send_lines, over_text}
 use Rattle.flush_cycle.specs.declared.stage.Stage.{Stage}
 use Rattle.flush_cycle.specs.declared.stage.Stage.TheVariants as stage
 use Rattle.shiny_main.specs.declared.session.OpenSession.{OpenSession}

@@ -6,7 +6,7 @@ use Rattle.rx_ports.specs.Files.{content_of}
 use Rattle.rx_ports.specs.declared.files.NamedFile.{NamedFile}
 use Rattle.app_tree.specs.Tree.{Shape}
 use Rattle.app_check.specs.Load.{loaded}
-use Rattle.session_model.specs.Transcript.{done, replayed}
+use Rattle.session_model.specs.EarlyTranscript.{done, replayed}
 use Rattle.flush_cycle.specs.Built.{IsBuilt}
 use Rattle.shiny_main.specs.declared.words.Command.{Command}
 use Rattle.shiny_main.specs.declared.words.Command.TheVariants as command

@@ -1,7 +1,8 @@
 ghost use Rattle.std.specs.Prelude.{◌≡◌};
 ghost use Rattle.std.specs.Option.{option_map};
 ghost use Rattle.std.specs.List.{list_all};
-ghost use Rattle.session_model.specs.Transcript.{recv, is_label, is_label_byte, recv_of, parts_of, line_of};
+ghost use Rattle.session_model.specs.EarlyTranscript.{recv, recv_of, parts_of, line_of};
+ghost use Rattle.session_model.specs.Lines.{is_label, is_label_byte};
 
 /// The most bytes of a line, without its line feed.
 pub const LINE_LIMIT: usize = 70_000;

@@ -2,7 +2,7 @@ ghost use Rattle.std.specs.Prelude.{◌≡◌, ◌==◌, ◌<◌, ◌≤◌, [],
 ghost use Rattle.shiny_main.specs.Lines.{is_feed, feed_place, Moves, Replaces, RefillGives, Grows, StepGives, last_line, NextGives, remaining, content};
 ghost use Rattle.rx_ports.specs.Faults.{Rose};
 ghost use Rattle.std.specs.Io.KnownBytes.{prepend_known, IsAtEnd};
-ghost use Rattle.session_model.specs.Transcript.{HasNoFeed};
+ghost use Rattle.session_model.specs.Lines.{HasNoFeed};
 
 use crate::line::LINE_LIMIT;
 use rx_ports::{RxBytes, Source, Take};

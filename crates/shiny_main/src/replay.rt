@@ -1,6 +1,6 @@
 ghost use Rattle.std.specs.Prelude.{◌≡◌, Option, None, Some, IfOk};
 ghost use Rattle.app_tree.specs.View.{shape_of};
-ghost use Rattle.session_model.specs.Transcript.{Open, line_of, recv as recv_line};
+ghost use Rattle.session_model.specs.EarlyTranscript.{Open, line_of, recv as recv_line};
 ghost use Rattle.session_model.specs.Early.{early_pairs};
 ghost use Rattle.flush_cycle.specs.Built.{IsBuilt};
 ghost use Rattle.shiny_main.specs.Replaying.{AnswersFirst, HoldsOpen, HoldsSession, Updates, TakesRecv};

@@ -1,6 +1,7 @@
 ghost use Rattle.std.specs.Prelude.{◌≡◌, ◌≤◌, [], Option, None, IfOk, codes};
 ghost use Rattle.app_tree.specs.View.{shape_of};
-ghost use Rattle.session_model.specs.Transcript.{Open, over_text};
+ghost use Rattle.session_model.specs.EarlyTranscript.{Open};
+ghost use Rattle.session_model.specs.Output.{over_text};
 ghost use Rattle.shiny_main.specs.Lines.{remaining};
 ghost use Rattle.flush_cycle.specs.Built.{IsBuilt};
 ghost use Rattle.shiny_main.specs.Replaying.{HoldsSession, ReplayGives, ReadFaults, PutsAnswer, PutsOver, ClosesOpen, Closes, AnswersTaken, TurnGives, WriteFaults, TurnReadFaults, TurnWriteFaults};

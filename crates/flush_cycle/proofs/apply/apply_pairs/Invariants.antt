@@ -1,6 +1,6 @@
 use Rattle.std.proofs.Common.{◌≡◌, drop}
 use Rattle.app_tree.specs.View.{shape_of}
-use Rattle.session_model.specs.Apply.{apply_pairs}
+use Rattle.session_model.specs.EarlyApply.{apply_pairs}
 use Rattle.flush_cycle.specs.State.{state_of}
 use Rattle.flush_cycle.proofs.apply.apply_pairs.Given as goal
 

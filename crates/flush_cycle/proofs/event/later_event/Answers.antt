@@ -1,5 +1,5 @@
 use Rattle.app_tree.specs.View.{shape_of}
-use Rattle.session_model.specs.Alone.{applied}
+use Rattle.session_model.specs.EarlyAlone.{applied}
 use Rattle.flush_cycle.specs.State.{state_of}
 use Rattle.flush_cycle.proofs.Sending.{sends_later}
 use Rattle.flush_cycle.proofs.event.later_event.Goals as goal

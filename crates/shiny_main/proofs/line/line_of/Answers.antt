@@ -1,6 +1,6 @@
 use Rattle.std.proofs.Common.{◌∙◌, ap, sym, true, false}
 use Rattle.std.proofs.lemmas.Str.{is_utf8-from_IsUtf8}
-use Rattle.session_model.specs.Transcript.{parts_of}
+use Rattle.session_model.specs.EarlyTranscript.{parts_of}
 use Rattle.shiny_main.proofs.Utf8Tests.{is_not_utf8, line_of-by}
 use Rattle.shiny_main.proofs.line.line_of.Goals as goal
 

@@ -1,7 +1,7 @@
 use Rattle.std.proofs.Common.{◌≡◌, ◌∙◌, sym, false, Some}
 use Rattle.app_tree.specs.View.{shape_of}
 use Rattle.session_model.specs.Early.{early_pairs}
-use Rattle.session_model.specs.Transcript.{Open, recv}
+use Rattle.session_model.specs.EarlyTranscript.{Open, recv}
 use Rattle.shiny_main.specs.declared.replay.Taken.{Taken}
 use Rattle.shiny_main.specs.Replaying.{HoldsOpen, Updates, TakesRecv}
 use Rattle.shiny_main.proofs.Taking.{later_takes, if_ok, label_is}

@@ -1,7 +1,7 @@
 use Rattle.std.proofs.Common.{Option, ◌∷◌, ◌∙◌, ap, sym, refl}
 use Rattle.std.specs.Option.{option_map}
 use Rattle.app_tree.specs.View.{shape_of}
-use Rattle.session_model.specs.Transcript.{Open, line_of}
+use Rattle.session_model.specs.EarlyTranscript.{Open, line_of}
 use Rattle.shiny_main.specs.declared.replay.Taken.{Taken}
 use Rattle.shiny_main.specs.Lines.{remaining}
 use Rattle.shiny_main.specs.Replaying.{HoldsSession, TakesRecv}

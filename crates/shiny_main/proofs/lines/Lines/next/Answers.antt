@@ -1,5 +1,5 @@
 use Rattle.std.proofs.Common.{subst, sym, ◌<◌, length, arith}
-use Rattle.session_model.specs.Transcript.{line_limit}
+use Rattle.session_model.specs.Lines.{line_limit}
 use Rattle.shiny_main.specs.Lines.{NextGives, remaining}
 use Rattle.shiny_main.proofs.LineSteps.{next_found, next_at_end, next_too_long}
 use Rattle.shiny_main.proofs.lines.Lines.next.Goals as goal

@@ -1,0 +1,70 @@
+-- Tasks in a session: an invocation, and the end of one.
+use Rattle.std.specs.Prelude.{ℕ, ◌+◌, ◌-◌, ◌==◌, Bool, true, false, List, [], map, filter, length, Option, Some, None, slice_get, slice_set, option_map}
+use Rattle.rx_value.specs.declared.value.Value.{Value}
+use Rattle.rx_value.specs.declared.outcome.Outcome.{Outcome}
+use Rattle.rx_value.specs.declared.outcome.Outcome.TheVariants.{Val, Stop}
+use Rattle.rx_value.specs.declared.source.TaskView.{TaskView}
+use Rattle.rx_value.specs.declared.source.TaskView.TheVariants as view
+use Rattle.rx_value.specs.declared.source.SourceValue.TheVariants.{Task}
+use Rattle.app_tree.specs.Tree.{Node, task, Shape}
+use Rattle.app_tree.specs.Numbering.{is_input, is_value, is_task}
+use Rattle.app_tree.specs.Evaluate.{Answers, outcome_of}
+use Rattle.task_board.specs.declared.job.Invocation.{Invocation}
+use Rattle.task_board.specs.declared.job.Ended.{Ended}
+use Rattle.task_board.specs.declared.job.Ended.TheVariants.{Next, Quiet, Stale}
+use Rattle.task_board.specs.Board.{TaskBoard, AfterEnd, board_at, ended, running_number}
+use Rattle.session_model.specs.State.{SessionState}
+use Rattle.session_model.specs.Change.{change}
+
+-- the source number of the first task; tasks are numbered from 0 among themselves too
+abbrev pub first_task : Shape → ℕ
+first_task app = length (filter is_input app.items) + length (filter is_value app.items)
+
+abbrev pub with_board : ℕ → TaskBoard → SessionState → SessionState
+with_board t board state = record state { boards = slice_set state.boards t board }
+
+-- ---- what an invocation comes to
+
+-- a task reads nothing but its parameters
+abbrev pub nothing_read : Answers
+nothing_read = record { read = λ r. Stop; site = λ site. None }
+
+abbrev pub body_outcome : Option Node → List Value → Outcome
+body_outcome (Some (task name parameters body)) args = outcome_of body nothing_read args
+body_outcome _ args = Stop
+
+-- the outcome of task t's body on these arguments
+abbrev pub task_outcome : Shape → ℕ → List Value → Outcome
+task_outcome app t args = body_outcome (slice_get (filter is_task app.items) t) args
+
+-- ---- the end of an invocation
+
+abbrev pub ended_view : Outcome → TaskView
+ended_view (Val x) = view.Success x
+ended_view outcome = view.Error outcome
+
+abbrev pub see_task : Shape → ℕ → TaskView → SessionState → SessionState
+see_task app t seen state = change (first_task app + t) (Task seen) state
+
+-- the task shows what the invocation came to; where another one was waiting, it runs in the same event
+abbrev pub shown_after : Shape → ℕ → Outcome → AfterEnd → Ended → SessionState → SessionState
+shown_after app t outcome after Quiet state = with_board t after.board (see_task app t (ended_view outcome) state)
+shown_after app t outcome after (Next job) state = with_board t after.board (see_task app t view.Running (see_task app t (ended_view outcome) state))
+shown_after app t outcome after (Stale number) state = state
+
+abbrev pub end_running : Shape → ℕ → Option Invocation → SessionState → SessionState
+end_running app t None state = state
+end_running app t (Some running) state =
+    shown_after app t (task_outcome app t running.args) (ended t running.number (board_at state.boards t)) (ended t running.number (board_at state.boards t)).answer state
+
+-- the invocation of task t that runs ends
+abbrev pub end_task : Shape → ℕ → SessionState → SessionState
+end_task app t state = end_running app t (board_at state.boards t).running state
+
+abbrev pub is_number_of : ℕ → Option ℕ → Bool
+is_number_of number None = false
+is_number_of number (Some running) = running == number
+
+-- whether the invocation of this number of task t runs
+abbrev pub is_running : ℕ → ℕ → SessionState → Bool
+is_running t number state = is_number_of number (running_number (board_at state.boards t))

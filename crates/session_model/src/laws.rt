@@ -1,0 +1,25 @@
+//! What is expected of a session, whatever its app. Each function does nothing: it is there for its contract.
+
+ghost use Rattle.session_model.specs.Laws.{EqualValueChangesNothing, DoneIsSettled, IsWithinBudget, AnswersGoOn, OverStays, OverIsSilent};
+
+/// Setting a source to the value that it has changes nothing.
+#[tactic(auto, using(crate::proofs::Expected::equal_value_changes_nothing))]
+pub fn change_laws()
+    ensures { EqualValueChangesNothing }
+{}
+
+/// A flush that is done leaves nobody waiting, and none makes more runs than the budget.
+#[tactic(auto, using(crate::proofs::Expected::done_is_settled, crate::proofs::Expected::is_within_budget))]
+pub fn flush_laws()
+    ensures settled { DoneIsSettled }
+    ensures budget { IsWithinBudget }
+{}
+
+/// What is sent in answer to a journal begins with what is sent in answer to each front of it, and a session
+/// that is over stays as it is and is sent nothing.
+#[tactic(auto, using(crate::proofs::Expected::answers_go_on, crate::proofs::Expected::over_stays, crate::proofs::Expected::over_is_silent))]
+pub fn journal_laws()
+    ensures front { AnswersGoOn }
+    ensures stays { OverStays }
+    ensures silent { OverIsSilent }
+{}

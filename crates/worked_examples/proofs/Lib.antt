@@ -1,0 +1,9 @@
+pub mod OnLiterals
+pub mod OutputComputed
+pub mod ObserverComputed
+pub mod TaskComputed
+pub mod CachedComputed
+pub mod MessageComputed
+pub mod PlotComputed
+pub mod LineComputed
+pub mod OutcomesComputed

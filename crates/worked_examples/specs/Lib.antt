@@ -1,0 +1,9 @@
+pub mod Files
+pub mod OutputCases
+pub mod ObserverCases
+pub mod TaskCases
+pub mod CachedCases
+pub mod MessageCases
+pub mod PlotCases
+pub mod LineCases
+pub mod OutcomeCases
