@@ -1,5 +1,5 @@
 -- What is expected of a session.
-use Rattle.std.proofs.Common.{◌≡◌, ℕ, zero, suc, ◌+◌, ◌≤◌, Bool, true, false, List, [], ◌∷◌, ◌++◌, length, Option, Some, None, refl, sym, ap, ◌∙◌, subst, arith, append_assoc, append-nil}
+use Rattle.std.proofs.Common.{◌≡◌, ℕ, zero, suc, ◌+◌, ◌≤◌, Bool, true, false, List, [], ◌∷◌, ◌++◌, length, Option, Some, None, refl, sym, ap, ◌∙◌, arith, append_assoc}
 use Rattle.std.specs.Prelude.{slice_get, option_map, if◌then◌else◌}
 use Rattle.rx_value.specs.declared.source.SourceValue.{SourceValue}
 use Rattle.rx_value.specs.declared.source.SourceValue.TheVariants as source
@@ -7,7 +7,7 @@ use Rattle.rx_value.specs.declared.source.TaskView.{TaskView}
 use Rattle.rx_value.specs.declared.source.TaskView.TheVariants as view
 use Rattle.rx_value.specs.declared.outcome.Outcome.{Outcome}
 use Rattle.rx_value.specs.declared.outcome.Outcome.TheVariants as outcome
-use Rattle.rx_value.specs.Value.{value_eq, outcome_eq, view_eq, source_eq}
+use Rattle.rx_value.specs.Value.{outcome_eq, view_eq, source_eq}
 use Rattle.rx_value.specs.Keys.{value_eq-itself}
 use Rattle.std.proofs.lemmas.Slice.Eq.{bytes_eq-Decides}
 use Rattle.app_tree.specs.Tree.{Node, Shape}
@@ -16,9 +16,9 @@ use Rattle.app_tree.specs.Current.{value_at}
 use Rattle.session_model.specs.declared.event.Event.{Event}
 use Rattle.session_model.specs.declared.state.ReaderState.{ReaderState}
 use Rattle.session_model.specs.State.{SessionState}
-use Rattle.session_model.specs.Change.{change, changed_to}
-use Rattle.session_model.specs.Flush.{Waiting, first_of, and_later, is_waiting, priority_of, waiting_from, next_waiting, Run, Made, make_run, FlushEnd, done, budget_spent, observer_failed, Flushed, failure_of, flushed_to, after_failure, after_run, flush_step, flush_end, flush_from, flush}
-use Rattle.session_model.specs.Alone.{Ending, Course, first_course, effect, effect_from, course_after, items_after, after_event, effect_texts, texts_of_event, course_from, answers_from, answers, course_of}
+use Rattle.session_model.specs.Change.{changed_to}
+use Rattle.session_model.specs.Flush.{Waiting, and_later, is_waiting, priority_of, waiting_from, next_waiting, Run, Made, make_run, done, Flushed, failure_of, after_failure, flush_step, flush_end, flush_from, flush}
+use Rattle.session_model.specs.Alone.{Ending, Course, first_course, effect_from, course_after, items_after, after_event, effect_texts, texts_of_event, course_from, answers_from}
 use Rattle.session_model.specs.Laws.{EqualValueChangesNothing, IsSettled, DoneIsSettled, IsWithinBudget, AnswersGoOn, OverStays, OverIsSilent}
 
 -- ---- a change

@@ -1,11 +1,8 @@
 -- A transcript of client messages, and the output that its replay writes.
-use Rattle.std.specs.Prelude.{◌≡◌, ⊤, ℕ, suc, ◌==◌, Bool, true, false, ◌&&◌, ◌||◌, nat_le, nat_lt, List, [], ◌∷◌, ◌++◌, length, drop, Option, Some, None, codes, bytes_eq, decimal, if◌then◌else◌}
-use Rattle.std.specs.List.{before_first, after_first, list_all, position_or_len}
+use Rattle.std.specs.Prelude.{ℕ, suc, Bool, true, false, ◌&&◌, nat_le, List, [], ◌∷◌, ◌++◌, length, drop, Option, Some, None, codes, bytes_eq, decimal, if◌then◌else◌}
+use Rattle.std.specs.List.{before_first, after_first}
 use Rattle.std.specs.Str.{is_utf8}
-use Rattle.std.specs.Char.{is_ascii_alphanumeric}
 use Rattle.shiny_json.specs.declared.message.Pair.{Pair}
-use Rattle.shiny_json.specs.declared.message.BadMessage.{BadMessage}
-use Rattle.shiny_json.specs.declared.message.BadMessage.TheVariants as bad
 use Rattle.app_tree.specs.Tree.{Shape}
 use Rattle.session_model.specs.Lines.{line_limit, lines_of, is_space, is_label, has_space}
 use Rattle.session_model.specs.Output.{cause_name, send_lines, over_text}

@@ -23,7 +23,7 @@ use Rattle.task_board.specs.Board.{AfterInvoke, board_at, invoked}
 use Rattle.session_model.specs.declared.state.Dependencies.{Dependencies}
 use Rattle.session_model.specs.State.{SessionState, reader_state, with_reader, sources_in, with_sources, has_run}
 use Rattle.session_model.specs.Change.{change, frozen}
-use Rattle.session_model.specs.Reading.{Reached, Reading, read_term, read_terms}
+use Rattle.session_model.specs.Reading.{Reached, read_term}
 use Rattle.session_model.specs.Run.{choose, passing, visit_expression}
 use Rattle.session_model.specs.Tasks.{first_task, with_board, see_task}
 

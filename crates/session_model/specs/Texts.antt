@@ -1,5 +1,5 @@
 -- The texts that a flush sends.
-use Rattle.std.specs.Prelude.{ℕ, Bool, true, false, List, [], ◌∷◌, ◌++◌, Option, Some, None}
+use Rattle.std.specs.Prelude.{ℕ, true, false, List, [], ◌∷◌, ◌++◌, Option, Some}
 use Rattle.app_tree.specs.Tree.{Node, text, plot, Shape}
 use Rattle.app_tree.specs.Numbering.{reader}
 use Rattle.shiny_json.specs.declared.batch.BatchOutput.{BatchOutput}
@@ -7,7 +7,7 @@ use Rattle.shiny_json.specs.declared.batch.Batch.{Batch}
 use Rattle.shiny_json.specs.declared.message.Pair.{Pair}
 use Rattle.shiny_json.specs.Server.{config_text, busy_text, progress_text, recalculating_text}
 use Rattle.shiny_json.specs.Values.{values_text}
-use Rattle.session_model.specs.Flush.{Run, FlushEnd, done, budget_spent, observer_failed, Flushed}
+use Rattle.session_model.specs.Flush.{Run, FlushEnd, done, Flushed}
 
 -- that an output's run is in progress, that it begins and that it has ended
 abbrev pub output_texts : List ℕ → List (List ℕ)

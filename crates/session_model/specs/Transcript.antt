@@ -4,12 +4,11 @@ use Rattle.std.specs.List.{before_first, after_first}
 use Rattle.std.specs.Str.{is_utf8}
 use Rattle.serde_json.specs.Data.{string}
 use Rattle.serde_json.specs.Written.{compact_text}
-use Rattle.task_board.specs.declared.job.Invocation.{Invocation}
 use Rattle.task_board.specs.Board.{board_at, running_number}
 use Rattle.app_tree.specs.Tree.{Node, Shape}
 use Rattle.app_tree.specs.Numbering.{is_task, number_from}
 use Rattle.session_model.specs.declared.event.Event.{Event}
-use Rattle.session_model.specs.declared.event.Event.TheVariants.{Text, Other, TaskEnd, End}
+use Rattle.session_model.specs.declared.event.Event.TheVariants.{Text, TaskEnd, End}
 use Rattle.session_model.specs.Alone.{Ending, ended, refused, spent, failed, answers, ending, state_after}
 use Rattle.session_model.specs.Lines.{line_limit, lines_of, is_space, is_label, has_space}
 use Rattle.session_model.specs.Output.{cause_name, send_lines, over_text}

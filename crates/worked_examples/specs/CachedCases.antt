@@ -1,5 +1,5 @@
 -- Cached readers in two sessions.
-use Rattle.std.specs.Prelude.{◌≡◌, List, [], ◌∷◌, Some, codes}
+use Rattle.std.specs.Prelude.{◌≡◌, [], ◌∷◌, Some, codes}
 use Rattle.session_model.specs.Transcript.{done}
 use Rattle.worked_examples.specs.Files.{lines, file_replayed}
 

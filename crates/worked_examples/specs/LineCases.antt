@@ -1,5 +1,5 @@
 -- Transcripts: their lines, and what ends a replay.
-use Rattle.std.specs.Prelude.{◌≡◌, List, [], ◌∷◌, Some, codes}
+use Rattle.std.specs.Prelude.{◌≡◌, [], ◌∷◌, Some, codes}
 use Rattle.session_model.specs.Transcript.{bad_line, done, no_session}
 use Rattle.worked_examples.specs.Files.{lines, file_replayed}
 

@@ -1,5 +1,5 @@
 -- Observers: what they write, and how they end a session.
-use Rattle.std.specs.Prelude.{◌≡◌, List, [], ◌∷◌, Some, codes}
+use Rattle.std.specs.Prelude.{◌≡◌, [], ◌∷◌, Some, codes}
 use Rattle.session_model.specs.Transcript.{done}
 use Rattle.worked_examples.specs.Files.{lines, file_replayed}
 

@@ -1,5 +1,5 @@
 -- Plots, sent as images.
-use Rattle.std.specs.Prelude.{◌≡◌, List, [], ◌∷◌, Some, codes}
+use Rattle.std.specs.Prelude.{◌≡◌, [], ◌∷◌, Some, codes}
 use Rattle.session_model.specs.Transcript.{done}
 use Rattle.worked_examples.specs.Files.{lines, file_replayed}
 

@@ -1,5 +1,5 @@
 -- Tasks: their invocations and their ends.
-use Rattle.std.specs.Prelude.{◌≡◌, List, [], ◌∷◌, Some, codes}
+use Rattle.std.specs.Prelude.{◌≡◌, [], ◌∷◌, Some, codes}
 use Rattle.session_model.specs.Transcript.{done, not_running}
 use Rattle.worked_examples.specs.Files.{lines, file_replayed}
 
