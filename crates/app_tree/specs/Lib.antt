@@ -5,6 +5,8 @@ pub mod Numbering
 pub mod Current
 pub mod Evaluate
 pub mod Fresh
+pub mod Cover
+pub mod CoverExamples
 pub mod DraftTree
 pub mod DraftView
 pub mod Declarations

@@ -13,6 +13,7 @@ mod cache_name;
 mod draft;
 mod draft_item;
 mod draft_term;
+mod examples;
 mod item;
 mod refusal;
 mod statement;
@@ -28,6 +29,7 @@ pub use draft_item::{
     DraftStatement, DraftWrite, DraftWrites,
 };
 pub use draft_term::{DraftTerm, DraftTerms, Name, Names, ReadForm};
+pub use examples::cover_examples;
 pub use item::{Flags, Item, Items, Output, Sort};
 pub use refusal::{Fault, Refusal};
 pub use statement::{Block, Statement};
