@@ -6,3 +6,5 @@ pub mod Counted
 pub mod Made
 pub mod Accepted
 pub mod Firsts
+pub mod Keyed
+pub mod Placed

@@ -1,6 +1,9 @@
 pub mod Text
 pub mod Load
 pub mod Tables
+pub mod ByName
+pub mod Indexed
+pub mod Bound
 pub mod Spots
 pub mod Resolving
 pub mod Joined

@@ -1,5 +1,5 @@
 -- Where a part of a term stands, as the code has it.
-use Rattle.std.specs.Prelude.{ℕ, zero, suc, Bool, false, ◌&&◌, List, map, Option, Some, None}
+use Rattle.std.specs.Prelude.{ℕ, zero, suc, Bool, false, ◌&&◌, List, [], map, Option, Some, None}
 use Rattle.app_tree.specs.Resolve.{text_of_name, inner_scope}
 use Rattle.app_tree.specs.Faults.{in_task, in_expression, elsewhere, is_in_expression, is_at_or_behind, Spot as Stand, Holder as Held}
 use Rattle.app_check.specs.declared.table.Declaration.{Declaration}
@@ -16,6 +16,7 @@ holder_of holder.Expression = in_expression
 holder_of holder.Other = elsewhere
 
 abbrev pub scope_step : Scope-F (List (List ℕ)) → List (List ℕ)
+scope_step Scope-F.Empty = []
 scope_step (Scope-F.Parameters names) = map text_of_name names.now
 scope_step (Scope-F.LastPart outer accumulator element) = inner_scope outer.now accumulator.now.text element.now.text
 
@@ -24,6 +25,7 @@ abbrev pub variables_of : Scope → List (List ℕ)
 variables_of = fold-Scope (List (List ℕ)) scope_step
 
 abbrev pub depth_step : Scope-F ℕ → ℕ
+depth_step Scope-F.Empty = zero
 depth_step (Scope-F.Parameters names) = zero
 depth_step (Scope-F.LastPart outer accumulator element) = suc outer.now
 

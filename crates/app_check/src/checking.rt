@@ -13,6 +13,7 @@ use crate::table::Table;
 use app_reader::{ReadError, read};
 use app_tokens::{TokenError, TokenList, tokens};
 use app_tree::{App, Draft};
+use rx_value::Memory;
 use std::alloc::Global;
 
 /// The most bytes of an app file.
@@ -26,9 +27,10 @@ pub fn check(alloc: Global, draft: &Draft) -> Result<App, LoadError>
 {
     let written = draft.items().as_slice();
     let table = Table::new(alloc, written)?;
-    match first_found(&table, written) {
-        Some(found) => Err(found.error(alloc)?),
-        None => {
+    match first_found(alloc, &table, written) {
+        Err(Memory) => Err(LoadError::Memory),
+        Ok(Some(found)) => Err(found.error(alloc)?),
+        Ok(None) => {
             let items = items(alloc, &table, written)?;
             Ok(App::new(draft.budget(), items))
         }

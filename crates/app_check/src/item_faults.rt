@@ -1,57 +1,97 @@
 //! The checks of items, and the first one of a draft that fails.
 
-ghost use Rattle.std.specs.Prelude.{◌≡◌, [], ◌≤◌, None, length, map, take};
+ghost use Rattle.std.specs.Prelude.{◌≡◌, [], ◌≤◌, None, IfOk, length, map, take};
 ghost use Rattle.app_tree.specs.Declarations.{declarations};
 ghost use Rattle.app_tree.specs.Resolve.{text_of_name};
-ghost use Rattle.app_tree.specs.DraftView.{written_output, written_form, written_item};
-ghost use Rattle.app_tree.specs.Faults.{first_with, repeated_names, spot_in, output_faults, form_faults, second_item, item_too_many, item_faults, items_faults};
+ghost use Rattle.app_tree.specs.DraftTree.{task as written_task};
+ghost use Rattle.app_tree.specs.DraftView.{draft_tree_of, written_output, written_form, written_item};
+ghost use Rattle.app_tree.specs.Faults.{first_with, repeated_names, in_task, spot_in, output_faults, form_faults, second_item, item_too_many, item_faults, items_faults};
 ghost use Rattle.app_check.specs.Spots.{holder_of, spot_of};
 
 use crate::found::{Found, where_fails};
-use crate::spot::{Holder, Scope, Spot, is_among};
+use crate::parameters::Parameters;
+use crate::spot::{Holder, Scope, Spot};
 use crate::statement_faults::{block, body};
 use crate::table::Table;
 use crate::term_faults::{term, terms};
-use app_tree::{DraftForm, DraftItem, DraftOutput, Fault, Name};
+use app_tree::{DraftForm, DraftItem, DraftOutput, DraftTerm, Fault, Name};
+use rx_value::Memory;
+use std::alloc::Global;
 
 /// The most items that an app may have.
 const ITEM_LIMIT: usize = 500;
 
-/// Where the whole terms of an item stand that has these parameters.
-fn whole<'a>(table: &'a Table<'a>, item: usize, holder: Holder, parameters: &'a [Name]) -> Spot<'a>
-    ensures { spot_of result ≡ spot_in table.now item (holder_of holder) (map text_of_name parameters.now) }
+/// Where the whole terms of an item stand in which no variable is bound.
+fn whole<'s, 'a>(table: &'s Table<'a>, item: usize, holder: Holder) -> Spot<'s, 'a>
+    ensures { spot_of result ≡ spot_in table.now item (holder_of holder) [] }
 {
     Spot {
         table,
         item,
         holder,
+        scope: Scope::Empty,
+    }
+}
+
+/// Where the body of a task stands that has these parameters.
+fn in_task<'s, 'a>(
+    table: &'s Table<'a>,
+    item: usize,
+    parameters: &'s Parameters<'a>,
+) -> Spot<'s, 'a>
+    ensures { spot_of result ≡ spot_in table.now item in_task (map text_of_name parameters.now) }
+{
+    Spot {
+        table,
+        item,
+        holder: Holder::Task,
         scope: Scope::Parameters(parameters),
     }
 }
 
 /// Refuses each parameter of the name of an earlier one.
-#[tactic(auto, using(crate::proofs::First::first_with_append))]
-fn repeated_names<'a>(names: &'a [Name], best: Option<Found<'a>>) -> Option<Found<'a>>
-    ensures { result ≡ first_with best.entry (repeated_names [] names.now) }
+fn repeated_names<'a>(parameters: &Parameters<'a>, best: Option<Found<'a>>) -> Option<Found<'a>>
+    ensures { result ≡ first_with best.entry (repeated_names [] parameters.now) }
 {
     let mut best = best;
-    for (place, name) in names.iter().enumerate() {
-        let repeated = is_among(&name.text, &names[..place]);
-        best = where_fails(best, repeated, Found::of(Fault::NameTwice, name));
+    let repeated = parameters.repeated();
+    for name in repeated {
+        best = where_fails(best, true, Found::of(Fault::NameTwice, *name));
     }
     best
 }
 
+/// The first of what was found before and of the checks of a task that fail.
+#[tactic(auto, using(crate::proofs::First::first_with_append))]
+fn task<'a>(
+    alloc: Global,
+    table: &Table<'a>,
+    item: usize,
+    parameters: &'a [Name],
+    body: &'a DraftTerm,
+    best: Option<Found<'a>>,
+) -> Result<Option<Found<'a>>, Memory>
+    ensures { IfOk result (λ found. found ≡ first_with best.entry (form_faults table.now item (written_task parameters.now (draft_tree_of body.now)))) }
+{
+    match Parameters::new(alloc, parameters) {
+        Ok(parameters) => {
+            let best = repeated_names(&parameters, best);
+            Ok(term(&in_task(table, item, &parameters), body, best))
+        }
+        Err(memory) => Err(memory),
+    }
+}
+
 #[tactic(auto, using(crate::proofs::First::first_with_append))]
 fn output<'a>(
-    table: &Table<'_>,
+    table: &Table<'a>,
     item: usize,
     written: &'a DraftOutput,
     best: Option<Found<'a>>,
 ) -> Option<Found<'a>>
     ensures { result ≡ first_with best.entry (output_faults table.now item (written_output written.now)) }
 {
-    let spot = whole(table, item, Holder::Other, &[]);
+    let spot = whole(table, item, Holder::Other);
     let best = terms(&spot, written.keys.as_slice(), best);
     body(&spot, &written.body, best)
 }
@@ -59,58 +99,55 @@ fn output<'a>(
 /// The first of what was found before and of the checks that fail behind an item's name.
 #[tactic(auto, using(crate::proofs::First::first_with_append))]
 fn form<'a>(
-    table: &Table<'_>,
+    alloc: Global,
+    table: &Table<'a>,
     item: usize,
     written: &'a DraftForm,
     best: Option<Found<'a>>,
-) -> Option<Found<'a>>
-    ensures { result ≡ first_with best.entry (form_faults table.now item (written_form written.now)) }
+) -> Result<Option<Found<'a>>, Memory>
+    ensures { IfOk result (λ found. found ≡ first_with best.entry (form_faults table.now item (written_form written.now))) }
 {
     match written {
-        DraftForm::Input(_) | DraftForm::Value(_) => best,
+        DraftForm::Input(_) | DraftForm::Value(_) => Ok(best),
         DraftForm::Task {
             parameters,
             body: inner,
-        } => {
-            let spot = whole(table, item, Holder::Task, parameters.as_slice());
-            let best = repeated_names(parameters.as_slice(), best);
-            term(&spot, inner, best)
-        }
+        } => task(alloc, table, item, parameters.as_slice(), inner, best),
         DraftForm::Reactive { keys, body: inner } => {
-            let spot = whole(table, item, Holder::Expression, &[]);
+            let spot = whole(table, item, Holder::Expression);
             let best = terms(&spot, keys.as_slice(), best);
-            body(&spot, inner, best)
+            Ok(body(&spot, inner, best))
         }
         DraftForm::Event {
             event,
             body: inner,
             ..
         } => {
-            let spot = whole(table, item, Holder::Expression, &[]);
+            let spot = whole(table, item, Holder::Expression);
             let best = term(&spot, event, best);
-            body(&spot, inner, best)
+            Ok(body(&spot, inner, best))
         }
-        DraftForm::Text(shown) => output(table, item, shown, best),
-        DraftForm::Plot(shown) => output(table, item, shown, best),
+        DraftForm::Text(shown) => Ok(output(table, item, shown, best)),
+        DraftForm::Plot(shown) => Ok(output(table, item, shown, best)),
         DraftForm::Observe { block: inner, .. } => {
-            let spot = whole(table, item, Holder::Other, &[]);
-            block(&spot, inner.as_slice(), best)
+            let spot = whole(table, item, Holder::Other);
+            Ok(block(&spot, inner.as_slice(), best))
         }
         DraftForm::On {
             event,
             block: inner,
             ..
         } => {
-            let spot = whole(table, item, Holder::Other, &[]);
+            let spot = whole(table, item, Holder::Other);
             let best = term(&spot, event, best);
-            block(&spot, inner.as_slice(), best)
+            Ok(block(&spot, inner.as_slice(), best))
         }
     }
 }
 
 /// Refuses an item of the name of an earlier one.
 fn second_item<'a>(
-    table: &Table<'_>,
+    table: &Table<'a>,
     place: usize,
     written: &'a DraftItem,
     best: Option<Found<'a>>,
@@ -125,31 +162,39 @@ fn second_item<'a>(
 /// The first of what was found before and of the checks of the item at this place that fail.
 #[tactic(auto, using(crate::proofs::First::first_with_append))]
 fn item<'a>(
-    table: &Table<'_>,
+    alloc: Global,
+    table: &Table<'a>,
     place: usize,
     written: &'a DraftItem,
     best: Option<Found<'a>>,
-) -> Option<Found<'a>>
+) -> Result<Option<Found<'a>>, Memory>
     requires { place ≤ length table.now }
-    ensures { result ≡ first_with best.entry (item_faults table.now place (written_item written.now)) }
+    ensures { IfOk result (λ found. found ≡ first_with best.entry (item_faults table.now place (written_item written.now))) }
 {
     let many = Found::at(Fault::TooManyItems, written.place);
     let best = where_fails(best, place == ITEM_LIMIT, many);
     let best = second_item(table, place, written, best);
-    form(table, place, &written.form, best)
+    form(alloc, table, place, &written.form, best)
 }
 
 /// The same of the items, which declare no more than the table holds.
 #[tactic(auto, using(crate::proofs::First::first_with_append))]
-fn items<'a>(table: &Table<'_>, written: &'a [DraftItem]) -> Option<Found<'a>>
+fn items<'a>(
+    alloc: Global,
+    table: &Table<'a>,
+    written: &'a [DraftItem],
+) -> Result<Option<Found<'a>>, Memory>
     requires { length written.now ≤ length table.now }
-    ensures { result ≡ first_with None (items_faults table.now 0 (map written_item written.now)) }
+    ensures { IfOk result (λ found. found ≡ first_with None (items_faults table.now 0 (map written_item written.now))) }
 {
     let mut best = None;
     for (place, inner) in written.iter().enumerate() {
-        best = item(table, place, inner, best);
+        match item(alloc, table, place, inner, best) {
+            Ok(found) => best = found,
+            Err(memory) => return Err(memory),
+        }
     }
-    best
+    Ok(best)
 }
 
 /// Of the items behind the limit the first alone counts, since it is refused itself.
@@ -164,9 +209,13 @@ fn counted(written: &[DraftItem]) -> &[DraftItem]
 }
 
 /// The first check of the items that fails, where the table holds what they declare.
-pub fn first_found<'a>(table: &Table<'_>, written: &'a [DraftItem]) -> Option<Found<'a>>
+pub fn first_found<'a>(
+    alloc: Global,
+    table: &Table<'a>,
+    written: &'a [DraftItem],
+) -> Result<Option<Found<'a>>, Memory>
     requires { table.now ≡ declarations (map written_item written.now) }
-    ensures { result ≡ first_with None (items_faults table.now 0 (take 501 (map written_item written.now))) }
+    ensures { IfOk result (λ found. found ≡ first_with None (items_faults table.now 0 (take 501 (map written_item written.now)))) }
 {
-    items(table, counted(written))
+    items(alloc, table, counted(written))
 }

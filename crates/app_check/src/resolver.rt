@@ -1,10 +1,12 @@
 //! What names stand for, as numbers, where a term stands.
 
-ghost use Rattle.std.specs.Prelude.{◌≡◌, ◌≤◌, [], ◌∷◌, ◌++◌, IfOk, OnOk, length, map, take};
+ghost use Rattle.std.specs.Prelude.{◌≡◌, ◌≤◌, [], ◌∷◌, ◌++◌, IfOk, OnOk, OnErr, length, map, take};
 ghost use Rattle.app_tree.specs.Resolve.{text_of_name, number_named, resolved_read, innermost_from, innermost, number_or_zero, read_to, named_read};
 ghost use Rattle.app_check.specs.Tables.{sorts_of};
+ghost use Rattle.app_check.specs.Bound.{kept_parameters};
 ghost use Rattle.app_check.specs.Resolving.{Makes, behind_sites, in_fold};
 
+use crate::parameters::Parameters;
 use crate::table::{Sorts, Table};
 use crate::term_faults::sought_by;
 use app_tree::{Name, Read, ReadForm, Sort};
@@ -18,6 +20,8 @@ pub struct Resolver<'t, 'a> {
     table: &'t Table<'a>,
     /// The variables that are bound, from the outside to the inside.
     variables: Vec<&'a RxText>,
+    /// Those of a task that stand first among them, as long as all of these are bound.
+    parameters: Option<Parameters<'a>>,
     /// The number of the next site.
     site: usize,
 }
@@ -33,11 +37,14 @@ impl<'t, 'a> Model for Resolver<'t, 'a> {
 
     ghost view = { λ r. record { table = r.table.now; scope = map (λ v. v.now) r.variables.items; site = r.site } };
 
-    ghost invariant = { λ r. length r.table.now ≤ 500 };
+    ghost use Rattle.app_check.specs.Bound.{StandFirst};
+
+    ghost invariant = { λ r. (length r.table.now ≤ 500) × StandFirst r.parameters (map (λ v. v.now) r.variables.items) };
 }
 
 fn push<'a>(variables: &mut Vec<&'a RxText>, name: &'a RxText) -> Result<(), Memory>
-    ensures { OnOk result (variables.new.items ≡ variables.old.items ++ name.entry ∷ []) }
+    ensures ok { OnOk result (variables.new.items ≡ variables.old.items ++ name.entry ∷ []) }
+    ensures err { OnErr result (variables.new.items ≡ variables.old.items) }
 {
     match variables.push(name) {
         Ok(()) => Ok(()),
@@ -55,17 +62,40 @@ fn texts_of<'a>(alloc: Global, names: &'a [Name]) -> Result<Vec<&'a RxText>, Mem
     Ok(texts)
 }
 
-/// The place of the innermost variable of this name.
-fn innermost(variables: &[&RxText], name: &RxText) -> Option<usize>
+/// The place of the innermost variable of this name, where it is known of the first `count`.
+fn innermost(
+    variables: &[&RxText],
+    count: usize,
+    among_first: Option<usize>,
+    name: &RxText,
+) -> Option<usize>
+    requires within { count ≤ length variables.now }
+    requires first { among_first ≡ innermost name.now (take count (map (λ v. v.now) variables.now)) }
     ensures { result ≡ innermost name.now (map (λ v. v.now) variables.now) }
 {
-    let mut found = None;
-    for (place, variable) in variables.iter().enumerate() {
-        if name.same(variable) {
+    let mut found = among_first;
+    for place in count..variables.len() {
+        if name.same(variables[place]) {
             found = Some(place);
         }
     }
     found
+}
+
+/// The parameters, where the first `count` variables have all of them.
+fn kept<'a>(parameters: Option<Parameters<'a>>, count: usize) -> Option<Parameters<'a>>
+    ensures { result ≡ kept_parameters count parameters.entry }
+{
+    match parameters {
+        Some(parameters) => {
+            if parameters.len() <= count {
+                Some(parameters)
+            } else {
+                None
+            }
+        }
+        None => None,
+    }
 }
 
 /// The read of what has this number and is of this sort.
@@ -100,6 +130,7 @@ impl<'t, 'a> Resolver<'t, 'a> {
         Resolver {
             table,
             variables: Vec::new(alloc),
+            parameters: None,
             site: 0,
         }
     }
@@ -114,9 +145,11 @@ impl<'t, 'a> Resolver<'t, 'a> {
         ensures { IfOk result (λ r. r ≡ record { table = table.now; scope = map text_of_name parameters.now; site = 0 }) }
     {
         let variables = texts_of(alloc, parameters)?;
+        let parameters = Some(Parameters::new(alloc, parameters)?);
         Ok(Resolver {
             table,
             variables,
+            parameters,
             site: 0,
         })
     }
@@ -147,7 +180,8 @@ impl<'t, 'a> Resolver<'t, 'a> {
         ensures { OnOk result (self.new ≡ in_fold self.old accumulator.now.text element.now.text) }
     {
         push(&mut self.variables, &accumulator.text)?;
-        push(&mut self.variables, &element.text)
+        push(&mut self.variables, &element.text)?;
+        Ok(())
     }
 
     /// Lets go the variables but for the first `count`.
@@ -155,6 +189,7 @@ impl<'t, 'a> Resolver<'t, 'a> {
     pub fn unbind(&mut self, count: usize)
         ensures { self.new ≡ record self.old { scope = take count self.old.scope } }
     {
+        self.parameters = kept(self.parameters.take(), count);
         self.variables.truncate(count);
     }
 
@@ -185,6 +220,14 @@ impl<'t, 'a> Resolver<'t, 'a> {
     pub fn variable(&self, name: &Name) -> usize
         ensures { result ≡ number_or_zero (innermost name.now.text self.now.scope) }
     {
-        innermost(self.variables.as_slice(), &name.text).unwrap_or(0)
+        let name = &name.text;
+        let variables = self.variables.as_slice();
+        let found = match &self.parameters {
+            Some(parameters) => {
+                innermost(variables, parameters.len(), parameters.last(name), name)
+            }
+            None => innermost(variables, 0, None, name),
+        };
+        found.unwrap_or(0)
     }
 }

@@ -5,6 +5,7 @@ ghost use Rattle.app_tree.specs.Resolve.{text_of_name, inner_scope};
 ghost use Rattle.app_tree.specs.Faults.{is_among, is_in_task, is_in_expression};
 ghost use Rattle.app_check.specs.Spots.{holder_of, variables_of, depth_of};
 
+use crate::parameters::Parameters;
 use crate::table::Table;
 use app_tree::Name;
 use rx_value::RxText;
@@ -19,12 +20,14 @@ pub enum Holder {
 
 /// The variables that are bound where a part of a term stands.
 #[derive(Clone, Copy)]
-pub enum Scope<'a> {
-    /// The parameters of a task; elsewhere there are none.
-    Parameters(&'a [Name]),
+pub enum Scope<'s, 'a> {
+    /// None, outside of a task and of a fold's last part.
+    Empty,
+    /// The parameters of a task.
+    Parameters(&'s Parameters<'a>),
     /// Those of a fold, in whose last part it stands, behind those around the fold.
     LastPart {
-        outer: &'a Scope<'a>,
+        outer: &'s Scope<'s, 'a>,
         accumulator: &'a Name,
         element: &'a Name,
     },
@@ -32,12 +35,12 @@ pub enum Scope<'a> {
 
 /// Where a part of a term stands.
 #[derive(Clone, Copy)]
-pub struct Spot<'a> {
-    pub table: &'a Table<'a>,
+pub struct Spot<'s, 'a> {
+    pub table: &'s Table<'a>,
     /// The item's place among the items, from 0.
     pub item: usize,
     pub holder: Holder,
-    pub scope: Scope<'a>,
+    pub scope: Scope<'s, 'a>,
 }
 
 impl Holder {
@@ -54,27 +57,15 @@ impl Holder {
     }
 }
 
-/// Whether one of these names is this one.
-pub fn is_among(name: &RxText, names: &[Name]) -> bool
-    ensures { result ≡ is_among name.now (map text_of_name names.now) }
-{
-    for other in names {
-        if name.same(&other.text) {
-            return true;
-        }
-    }
-    false
-}
-
 fn is_either(name: &RxText, first: &Name, second: &Name) -> bool
     ensures { result ≡ is_among name.now (first.now.text ∷ second.now.text ∷ []) }
 {
     name.same(&first.text) || name.same(&second.text)
 }
 
-impl<'a> Scope<'a> {
+impl<'s, 'a> Scope<'s, 'a> {
     /// The variables in the last part of a fold that stands here.
-    pub fn in_last_part(&'a self, accumulator: &'a Name, element: &'a Name) -> Scope<'a>
+    pub fn in_last_part(&'s self, accumulator: &'a Name, element: &'a Name) -> Scope<'s, 'a>
         ensures variables { variables_of result ≡ inner_scope (variables_of self.now) accumulator.now.text element.now.text }
         ensures depth { depth_of result ≡ suc (depth_of self.now) }
     {
@@ -86,14 +77,15 @@ impl<'a> Scope<'a> {
     }
 }
 
-impl Scope<'_> {
+impl Scope<'_, '_> {
     /// Whether a variable of this name is bound.
     #[tactic(auto, using(crate::proofs::First::is_among_append))]
     pub fn binds(&self, name: &RxText) -> bool
         ensures { result ≡ is_among name.now (variables_of self.now) }
     {
         match self {
-            Scope::Parameters(names) => is_among(name, names),
+            Scope::Empty => false,
+            Scope::Parameters(parameters) => parameters.contain(name),
             Scope::LastPart {
                 outer,
                 accumulator,
@@ -118,7 +110,7 @@ impl Scope<'_> {
         ensures { result ≡ nat_le 2 (depth_of self.now) }
     {
         match self {
-            Scope::Parameters(_) => false,
+            Scope::Empty | Scope::Parameters(_) => false,
             Scope::LastPart { outer, .. } => outer.is_in_last_part(),
         }
     }

@@ -39,7 +39,7 @@ fn argument_count<'a>(
 /// The first of what was found before and of the checks of a write that fail.
 #[tactic(auto, using(crate::proofs::First::first_with_append, crate::proofs::Counted::tree_count_of))]
 fn action<'a>(
-    spot: &Spot<'_>,
+    spot: &Spot<'_, 'a>,
     written: &'a DraftAction,
     best: Option<Found<'a>>,
 ) -> Option<Found<'a>>
@@ -66,7 +66,7 @@ fn action<'a>(
 #[cycle(statement)]
 #[tactic(auto, using(crate::proofs::First::first_with_append))]
 fn statement<'a>(
-    spot: &Spot<'_>,
+    spot: &Spot<'_, 'a>,
     written: &'a DraftStatement,
     best: Option<Found<'a>>,
 ) -> Option<Found<'a>>
@@ -90,7 +90,7 @@ fn statement<'a>(
 /// The first of what was found before and of the checks of a block that fail.
 #[cycle(statement)]
 pub fn block<'a>(
-    spot: &Spot<'_>,
+    spot: &Spot<'_, 'a>,
     written: &'a [DraftStatement],
     best: Option<Found<'a>>,
 ) -> Option<Found<'a>>
@@ -104,7 +104,11 @@ pub fn block<'a>(
 }
 
 /// Refuses a write in a body, and what is wrong within it.
-fn write<'a>(spot: &Spot<'_>, written: &'a DraftWrite, best: Option<Found<'a>>) -> Option<Found<'a>>
+fn write<'a>(
+    spot: &Spot<'_, 'a>,
+    written: &'a DraftWrite,
+    best: Option<Found<'a>>,
+) -> Option<Found<'a>>
     ensures { result ≡ first_with best.entry (write_faults (spot_of spot.now) (write_of written.now)) }
 {
     let best = where_fails(best, true, Found::at(Fault::WriteInExpr, written.place));
@@ -113,7 +117,7 @@ fn write<'a>(spot: &Spot<'_>, written: &'a DraftWrite, best: Option<Found<'a>>) 
 
 #[tactic(auto, using(crate::proofs::First::first_with_append))]
 fn writes<'a>(
-    spot: &Spot<'_>,
+    spot: &Spot<'_, 'a>,
     written: &'a [DraftWrite],
     best: Option<Found<'a>>,
 ) -> Option<Found<'a>>
@@ -129,7 +133,7 @@ fn writes<'a>(
 /// The first of what was found before and of the checks of a body that fail.
 #[tactic(auto, using(crate::proofs::First::first_with_append))]
 pub fn body<'a>(
-    spot: &Spot<'_>,
+    spot: &Spot<'_, 'a>,
     written: &'a DraftBody,
     best: Option<Found<'a>>,
 ) -> Option<Found<'a>>

@@ -4,8 +4,9 @@ ghost use Rattle.std.specs.Prelude.{◌≡◌, ◌<◌, ◌≤◌, IfOk, IfSome,
 ghost use Rattle.app_tree.specs.Declarations.{declaration, declarations, count_of, number_at, sort_of_form, parameter_count};
 ghost use Rattle.app_tree.specs.DraftView.{written_form, written_item};
 ghost use Rattle.app_tree.specs.Faults.{is_among, declared_name};
-ghost use Rattle.app_check.specs.Tables.{sorts_of, declared_of, told_of, number_among};
+ghost use Rattle.app_check.specs.Tables.{sorts_of, declared_of, told_of, is_told_before, number_among};
 
+use crate::index::Index;
 use app_tree::{DraftForm, DraftItem, Sort};
 use rx_value::{Memory, RxText};
 use std::alloc::Global;
@@ -22,6 +23,8 @@ pub enum Sorts {
     Outputs,
     /// Expressions, outputs and observers.
     Readers,
+    /// All of them.
+    Any,
 }
 
 /// What is told of a declaration that is found.
@@ -42,10 +45,11 @@ pub struct Entry<'a> {
     pub parameters: usize,
 }
 
-/// What the items of a file declare, in the order of the text.
+/// What the items of a file declare, in the order of the text. Names are looked up by maps.
 #[derive(Drop)]
 pub struct Table<'a> {
     entries: Vec<Entry<'a>>,
+    index: Index<'a>,
 }
 
 impl<'a> Model for Table<'a> {
@@ -60,10 +64,14 @@ impl<'a> Model for Table<'a> {
     ghost use Rattle.app_check.specs.Tables.{declared_of};
 
     ghost view = { λ t. map declared_of t.entries.items };
+
+    ghost use Rattle.app_check.specs.Indexed.{IsIndex};
+
+    ghost invariant = { λ t. IsIndex t.index t.entries.items };
 }
 
 impl Sorts {
-    fn contain(self, sort: Sort) -> bool
+    pub fn contain(self, sort: Sort) -> bool
         ensures { result ≡ sorts_of self sort }
     {
         match self {
@@ -73,35 +81,9 @@ impl Sorts {
             Sorts::Named => matches!(sort, Sort::Value | Sort::Expression),
             Sorts::Outputs => matches!(sort, Sort::Output),
             Sorts::Readers => matches!(sort, Sort::Expression | Sort::Output | Sort::Observer),
+            Sorts::Any => true,
         }
     }
-}
-
-fn find<'a>(entries: &[Entry<'a>], sought: Sorts, name: &RxText) -> Option<Declaration>
-    ensures within { IfSome result (λ found. found.item < length entries.now) }
-    ensures value { result ≡ told_of (declaration (sorts_of sought) name.now (map declared_of entries.now)) }
-{
-    for (item, entry) in entries.iter().enumerate() {
-        if sought.contain(entry.sort) && name.same(entry.name) {
-            return Some(Declaration {
-                item,
-                sort: entry.sort,
-                parameters: entry.parameters,
-            });
-        }
-    }
-    None
-}
-
-fn is_named(entries: &[Entry<'_>], name: &RxText) -> bool
-    ensures { result ≡ is_among name.now (map declared_name (map declared_of entries.now)) }
-{
-    for entry in entries {
-        if name.same(entry.name) {
-            return true;
-        }
-    }
-    false
 }
 
 /// How many of the entries are of these sorts.
@@ -137,6 +119,16 @@ fn number_among(all: &[Entry<'_>], before: &[Entry<'_>], sort: Sort) -> usize
     }
 }
 
+/// Whether a declaration was found, at an earlier place than this one.
+fn is_before(found: Option<Declaration>, place: usize) -> bool
+    ensures { result ≡ is_told_before place found }
+{
+    match found {
+        Some(found) => found.item < place,
+        None => false,
+    }
+}
+
 fn sort_of(form: &DraftForm) -> Sort
     ensures { result ≡ sort_of_form (written_form form.now) }
 {
@@ -162,23 +154,32 @@ fn parameter_count(form: &DraftForm) -> usize
     }
 }
 
+/// What these items declare, one after the other.
+fn entries_of<'a>(alloc: Global, items: &'a [DraftItem]) -> Result<Vec<Entry<'a>>, Memory>
+    ensures { IfOk result (λ entries. map declared_of entries.items ≡ declarations (map written_item items.now)) }
+{
+    let mut entries = Vec::new(alloc);
+    for item in items {
+        let entry = Entry {
+            name: &item.name.text,
+            sort: sort_of(&item.form),
+            parameters: parameter_count(&item.form),
+        };
+        if entries.push(entry).is_err() {
+            return Err(Memory);
+        }
+    }
+    Ok(entries)
+}
+
 impl<'a> Table<'a> {
     /// What these items declare.
     pub fn new(alloc: Global, items: &'a [DraftItem]) -> Result<Table<'a>, Memory>
         ensures { IfOk result (λ t. t ≡ declarations (map written_item items.now)) }
     {
-        let mut entries = Vec::new(alloc);
-        for item in items {
-            let entry = Entry {
-                name: &item.name.text,
-                sort: sort_of(&item.form),
-                parameters: parameter_count(&item.form),
-            };
-            if entries.push(entry).is_err() {
-                return Err(Memory);
-            }
-        }
-        Ok(Table { entries })
+        let entries = entries_of(alloc, items)?;
+        let index = Index::new(alloc, entries.as_slice())?;
+        Ok(Table { entries, index })
     }
 }
 
@@ -188,16 +189,16 @@ impl Table<'_> {
         ensures within { IfSome result (λ found. found.item < length self.now) }
         ensures value { result ≡ told_of (declaration (sorts_of sought) name.now self.now) }
     {
-        find(self.entries.as_slice(), sought, name)
+        self.index.of(sought).get(name.as_str()).copied()
     }
 
     /// Whether one of the first `count` items has this name.
-    #[tactic(auto, using(crate::proofs::First::names_taken))]
+    #[tactic(auto, using(crate::proofs::Keyed::told_before))]
     pub fn is_named_before(&self, count: usize, name: &RxText) -> bool
         requires { count ≤ length self.now }
         ensures { result ≡ is_among name.now (map declared_name (take count self.now)) }
     {
-        is_named(&self.entries[..count], name)
+        is_before(self.find(Sorts::Any, name), count)
     }
 
     /// The number of the item at this place, which is of this sort: the source number of an input, a value

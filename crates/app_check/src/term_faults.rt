@@ -42,7 +42,7 @@ pub fn unknown_name<'a>(
 }
 
 /// Whether what was found is the expression in which the read stands, or a later one.
-fn is_forward(spot: &Spot<'_>, found: Option<Declaration>) -> bool
+fn is_forward(spot: &Spot<'_, '_>, found: Option<Declaration>) -> bool
     ensures { result ≡ is_told_forward (spot_of spot.now) found }
 {
     match found {
@@ -56,7 +56,7 @@ fn is_forward(spot: &Spot<'_>, found: Option<Declaration>) -> bool
 /// Refuses the read of the expression in which it stands, or of a later one.
 #[tactic(auto, using(crate::proofs::Told::told_forward))]
 fn forward_read<'a>(
-    spot: &Spot<'_>,
+    spot: &Spot<'_, 'a>,
     form: ReadForm,
     name: &'a Name,
     best: Option<Found<'a>>,
@@ -69,7 +69,7 @@ fn forward_read<'a>(
 }
 
 /// Refuses what may not stand in a task.
-fn in_task<'a>(spot: &Spot<'_>, place: usize, best: Option<Found<'a>>) -> Option<Found<'a>>
+fn in_task<'a>(spot: &Spot<'_, 'a>, place: usize, best: Option<Found<'a>>) -> Option<Found<'a>>
     ensures { result ≡ first_with best.entry (in_task_fault (spot_of spot.now) place) }
 {
     let fails = spot.holder.is_task();
@@ -78,7 +78,7 @@ fn in_task<'a>(spot: &Spot<'_>, place: usize, best: Option<Found<'a>>) -> Option
 
 #[tactic(auto, using(crate::proofs::First::first_with_append))]
 fn read<'a>(
-    spot: &Spot<'_>,
+    spot: &Spot<'_, 'a>,
     form: ReadForm,
     place: usize,
     name: &'a Name,
@@ -92,7 +92,7 @@ fn read<'a>(
 }
 
 #[tactic(auto, using(crate::proofs::First::unbound))]
-fn variable<'a>(spot: &Spot<'_>, name: &'a Name, best: Option<Found<'a>>) -> Option<Found<'a>>
+fn variable<'a>(spot: &Spot<'_, 'a>, name: &'a Name, best: Option<Found<'a>>) -> Option<Found<'a>>
     ensures { result ≡ first_with best.entry (unbound_variable (spot_of spot.now) name.now) }
 {
     let unbound = !spot.scope.binds(&name.text);
@@ -101,7 +101,7 @@ fn variable<'a>(spot: &Spot<'_>, name: &'a Name, best: Option<Found<'a>>) -> Opt
 
 /// Refuses `isolate` where it may not stand.
 #[tactic(auto, using(crate::proofs::First::first_with_append))]
-fn isolate<'a>(spot: &Spot<'_>, place: usize, best: Option<Found<'a>>) -> Option<Found<'a>>
+fn isolate<'a>(spot: &Spot<'_, 'a>, place: usize, best: Option<Found<'a>>) -> Option<Found<'a>>
     ensures { result ≡ first_with best.entry (in_task_fault (spot_of spot.now) place ++ isolate_in_fold (spot_of spot.now) place) }
 {
     let best = in_task(spot, place, best);
@@ -112,7 +112,7 @@ fn isolate<'a>(spot: &Spot<'_>, place: usize, best: Option<Found<'a>>) -> Option
 /// Refuses `fold` where it may not stand, and variables of one name.
 #[tactic(auto, using(crate::proofs::First::first_with_append))]
 fn fold<'a>(
-    spot: &Spot<'_>,
+    spot: &Spot<'_, 'a>,
     place: usize,
     accumulator: &'a Name,
     element: &'a Name,
@@ -130,7 +130,7 @@ fn fold<'a>(
 #[cycle(term)]
 #[tactic(auto, using(crate::proofs::First::first_with_append))]
 pub fn term<'a>(
-    spot: &Spot<'_>,
+    spot: &Spot<'_, 'a>,
     written: &'a DraftTerm,
     best: Option<Found<'a>>,
 ) -> Option<Found<'a>>
@@ -181,7 +181,7 @@ pub fn term<'a>(
 /// The last part of a fold, in which its variables are bound.
 #[cycle(term)]
 fn last_part<'a>(
-    spot: &Spot<'_>,
+    spot: &Spot<'_, 'a>,
     accumulator: &'a Name,
     element: &'a Name,
     body: &'a DraftTerm,
@@ -202,7 +202,7 @@ fn last_part<'a>(
 #[cycle(term)]
 #[tactic(auto, using(crate::proofs::First::first_with_append))]
 pub fn terms<'a>(
-    spot: &Spot<'_>,
+    spot: &Spot<'_, 'a>,
     written: &'a [DraftTerm],
     best: Option<Found<'a>>,
 ) -> Option<Found<'a>>

@@ -4,11 +4,11 @@ use Rattle.app_tree.specs.View.{node_of}
 use Rattle.app_check.proofs.Accepted.{table_within, draft_passes, draft_stands}
 use Rattle.app_check.proofs.checking.check.Goals as goal
 
-pub items-requires-in-None : goal.items-requires-in-None
-items-requires-in-None c = table_within c.in_ok-table.table (map written_item c.as_slice-written.result.now) (c.in_ok-table.ensures {u = tt}) (sym c.first_found.ensures ∙ c.in-None.is)
+pub items-requires-in-Ok-None : goal.items-requires-in-Ok-None
+items-requires-in-Ok-None c = table_within c.in_ok-table.table (map written_item c.as_slice-written.result.now) (c.in_ok-table.ensures {u = tt}) (sym c.in-Ok-None.ensures ∙ c.in-Ok-None.field-0-is)
 
-pub new-requires-in-None : goal.new-requires-in-None
-new-requires-in-None c =
+pub new-requires-in-Ok-None : goal.new-requires-in-Ok-None
+new-requires-in-Ok-None c =
     let d = draft_shape_of c.args.draft.now in
     let items = map written_item c.as_slice-written.result.now in
     let same : items ≡ d.items = ap (map written_item) (c.as_slice-written.ensures ∙ c.items.ensures.items) in
@@ -16,6 +16,6 @@ new-requires-in-None c =
     record {
       draft = d;
       fits = c.items.ensures.fits;
-      passes = draft_passes d table items same (c.in_ok-table.ensures {u = tt}) (sym c.first_found.ensures ∙ c.in-None.is);
-      stands = draft_stands d table items c.budget.result (map node_of c.in_ok-items-in-None.items) same (c.in_ok-table.ensures {u = tt}) c.budget.ensures c.in_ok-items-in-None.ensures;
+      passes = draft_passes d table items same (c.in_ok-table.ensures {u = tt}) (sym c.in-Ok-None.ensures ∙ c.in-Ok-None.field-0-is);
+      stands = draft_stands d table items c.budget.result (map node_of c.in_ok-items-in-Ok-None.items) same (c.in_ok-table.ensures {u = tt}) c.budget.ensures c.in_ok-items-in-Ok-None.ensures;
     }

@@ -1,4 +1,5 @@
-use Rattle.std.proofs.Common.{ap, ◌∙◌, None, map}
+use Rattle.std.proofs.Common.{◌≡◌, List, ap, ◌∙◌, subst, None, IfOk, map}
+use Rattle.app_tree.specs.DraftTree.{WrittenItem}
 use Rattle.app_tree.specs.DraftView.{written_item}
 use Rattle.app_tree.specs.Faults.{first_with, items_faults}
 use Rattle.app_check.proofs.Counted.{counted_within, items_taken}
@@ -9,6 +10,5 @@ items-requires c = rw (c.counted.ensures, c.requires) (counted_within 501 c.args
 
 pub returns : goal.returns
 returns c =
-    c.items.ensures
-    ∙ ap (λ items. first_with None (items_faults c.args.table.now 0 (map written_item items))) c.counted.ensures
-    ∙ ap (λ items. first_with None (items_faults c.args.table.now 0 items)) (items_taken 501 c.args.written.now)
+    subst (λ (items : List WrittenItem). IfOk c.items.result (λ found. found ≡ first_with None (items_faults c.args.table.now 0 items)))
+    (ap (map written_item) c.counted.ensures ∙ items_taken 501 c.args.written.now) c.items.ensures
