@@ -6,3 +6,6 @@ pub mod Counted
 pub mod Made
 pub mod Accepted
 pub mod Firsts
+pub mod CutNames
+pub mod ReadNames
+pub mod LoadedNames
