@@ -1,4 +1,5 @@
 pub mod Text
+pub mod Words
 pub mod Load
 pub mod Tables
 pub mod ByName

@@ -1,10 +1,12 @@
 //! The check of a draft, and the app of a file.
 
-ghost use Rattle.std.specs.Prelude.{◌≡◌, Ok, IfOk, IfErr};
+ghost use Rattle.std.specs.Prelude.{◌≡◌, true, Ok, IfOk, IfErr};
+ghost use Rattle.app_tree.specs.Named.{named};
 ghost use Rattle.app_tree.specs.View.{shape_of};
 ghost use Rattle.app_tree.specs.DraftView.{draft_shape_of};
 ghost use Rattle.app_reader.specs.Items.{read_at};
 ghost use Rattle.app_check.specs.Load.{Refuses, checked_app, loaded, app_of_draft, app_of_tokens, of_token_error, of_read_error};
+ghost use Rattle.app_check.specs.Words.{has_words};
 
 use crate::error::LoadError;
 use crate::item_faults::first_found;
@@ -69,9 +71,10 @@ fn app_of_tokens(alloc: Global, list: &TokenList<'_>) -> Result<App, LoadError>
 
 /// The app of a file. A file of more than 262,144 bytes is refused as too long; else it is refused for the
 /// first byte that no token can have, then for the first token that the grammar doesn't allow, and then for
-/// the first check that fails.
+/// the first check that fails. Each name in the app is a word that isn't reserved.
 pub fn load(alloc: Global, bytes: &[u8]) -> Result<App, LoadError>
     ensures accepted { IfOk result (λ app. loaded bytes.now ≡ Ok (shape_of app)) }
+    ensures words { IfOk result (λ app. has_words (named (shape_of app)) ≡ true) }
     ensures refused { IfErr result (λ error. Refuses error (loaded bytes.now)) }
 {
     if bytes.len() > FILE_LIMIT {

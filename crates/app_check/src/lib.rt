@@ -25,5 +25,5 @@ mod tests;
 
 pub use checking::{check, load};
 pub use error::LoadError;
-pub use examples::worked_examples;
+pub use examples::{worked_examples, worked_files};
 pub use laws::first_refusal_laws;

@@ -15,7 +15,7 @@ use Rattle.app_tree.proofs.Fitting.{fits_unplaced}
 use Rattle.app_tree.proofs.Naming.{named_resolved}
 use Rattle.app_tree.proofs.Places.{passes_alike, resolved_alike}
 use Rattle.app_printer.specs.Canonical.{canonical_text}
-use Rattle.app_printer.specs.Words.{has_words}
+use Rattle.app_check.specs.Words.{has_words}
 use Rattle.app_printer.specs.Laws.{ReadsBack}
 use Rattle.app_printer.proofs.DraftLaws.{text_is_read}
 use Rattle.app_printer.proofs.NamedLaws.{named_is_unplaced}

@@ -15,7 +15,7 @@ use Rattle.app_reader.specs.Spelling.{Wording, ends, either, spell_items, writte
 use Rattle.app_reader.proofs.FilesAgain.{canonical_is_read}
 use Rattle.app_printer.specs.Canonical.{items_text, draft_text}
 use Rattle.app_tree.specs.Unplaced.{unplaced}
-use Rattle.app_printer.specs.Words.{has_words}
+use Rattle.app_check.specs.Words.{has_words}
 use Rattle.app_printer.specs.Laws.{TokensAreSpelling, TextIsRead}
 use Rattle.app_tree.proofs.Fitting.{fits_alike}
 use Rattle.app_printer.proofs.TokenLaws.{Stands, Stands-blank, Stands-word, Stands-semicolon}

@@ -15,7 +15,7 @@ use Rattle.app_reader.specs.Spelling.{Wording, ends, next, either, first_way, a_
 use Rattle.app_reader.specs.Spelling as spelt
 use Rattle.app_printer.specs.Canonical.{numbers_text, more_numbers, constant_text, term_text, terms_text, acts_text, braced, writes_text, body_text, if_written, flags_text, priority_text, keys_text, names_text, more_names, start_text, output_text, form_word, form_text, item_text, items_text}
 use Rattle.app_tree.specs.Unplaced.{unplaced_of, unplaced_tree, unplaced_trees, unplaced_written, unplaced_acts, unplaced_body, unplaced_output, unplaced_form, unplaced_item}
-use Rattle.app_printer.specs.Words.{is_name, name_is_word, term_has_words, terms_have_words, deed_has_words, acts_have_words, body_has_words, output_has_words, form_has_words, item_has_words}
+use Rattle.app_check.specs.Words.{is_name, name_is_word, term_has_words, terms_have_words, deed_has_words, acts_have_words, body_has_words, output_has_words, form_has_words, item_has_words}
 use Rattle.app_printer.proofs.Reserved.{word_text}
 use Rattle.app_printer.proofs.TokenLaws.{Stands, Stands-end, place_of, name_there, Stands-blank, Stands-word, Stands-word_at, Stands-name, Stands-open, Stands-close, Stands-open_brace, Stands-close_brace, Stands-semicolon, Stands-minus, Stands-assign}
 use Rattle.app_printer.proofs.Literals.{Stands-number, Stands-text}

@@ -25,7 +25,7 @@ use Rattle.rx_value.specs.Functions.{is_count}
 use Rattle.app_reader.specs.Spelling.{Wording, of_kind, next, a_word, a_word_at, a_symbol, a_name, literal_kind, function_word, sign_symbol, operator_symbol, spell_named, spell_cancels, spell_term, spell_terms, spell_more}
 use Rattle.app_printer.specs.Canonical.{constant_text, read_text, cancels_text, function_text, sign_text, operator_text, term_text, terms_text, more_terms}
 use Rattle.app_tree.specs.Unplaced.{unplaced_of, unplaced_tree, unplaced_trees}
-use Rattle.app_printer.specs.Words.{is_name, term_has_words, terms_have_words}
+use Rattle.app_check.specs.Words.{is_name, term_has_words, terms_have_words}
 use Rattle.app_printer.proofs.Reserved.{word_text}
 use Rattle.app_printer.proofs.TokenLaws.{Stands, place_of, name_there, Stands-blank, Stands-word, Stands-word_at, Stands-name, Stands-called, Stands-open, Stands-close, Stands-comma, Stands-dollar, Stands-minus, Stands-not}
 use Rattle.app_printer.proofs.Literals.{numerals, natural_below, Stands-operator, Stands-number, Stands-text}

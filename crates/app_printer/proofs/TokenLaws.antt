@@ -14,7 +14,7 @@ use Rattle.app_tokens.proofs.Pieces.{joined, tokens_from-piece}
 use Rattle.app_tokens.proofs.Again.{begins_with, IsAlone, piece_of-blank, piece_of-word, piece_of-symbol, symbol_of-one}
 use Rattle.app_tree.specs.declared.draft_term.Name.{Name}
 use Rattle.app_reader.specs.Spelling.{Wanted, of_kind, at_place, named, called, IsWanted, Wording, ends, next, first_way, AreWanted, a_word, a_word_at, a_symbol, a_name}
-use Rattle.app_printer.specs.Words.{is_name, is_free}
+use Rattle.app_check.specs.Words.{is_name, is_free}
 use Rattle.app_printer.proofs.Reserved.{word_text, word_of-text, is_spelling, is_spelling-text}
 
 -- the bytes, which stand at this place, are cut into the tokens of the wording

@@ -13,7 +13,7 @@ use Rattle.app_reader.specs.Items.{read_at}
 use Rattle.app_tree.specs.Faults.{checked}
 use Rattle.app_printer.specs.Canonical.{draft_text, canonical_text}
 use Rattle.app_tree.specs.Unplaced.{unplaced}
-use Rattle.app_printer.specs.Words.{has_words}
+use Rattle.app_check.specs.Words.{has_words}
 
 -- the text of a draft is cut into the tokens of the draft's canonical spelling, at the places where they stand
 pub record IsCutAs (draft placed : DraftShape) (tokens : List Token) : Type 0 where

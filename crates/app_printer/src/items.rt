@@ -4,7 +4,7 @@ ghost use Rattle.std.specs.Prelude.{◌≡◌, true, [], ◌∷◌, ◌++◌, If
 ghost use Rattle.std.specs.Str.{IsUtf8};
 ghost use Rattle.app_tree.specs.View.{tree_of, trees_of_terms, acts_of_block, shown_of, node_of, shape_of};
 ghost use Rattle.app_tree.specs.Named.{unplaced_name, named_tree, named_trees, named_acts, named_body, named_output, named_item, named};
-ghost use Rattle.app_printer.specs.Words.{has_words};
+ghost use Rattle.app_check.specs.Words.{has_words};
 ghost use Rattle.app_printer.specs.Laws.{ReadsBack};
 ghost use Rattle.app_printer.specs.Canonical.{term_text, braced, acts_text, body_text, if_written, flags_text, priority_text, keys_text, names_text, start_text, output_text, item_text, items_text, canonical_text};
 
@@ -312,8 +312,8 @@ fn printed(alloc: Global, app: &App) -> Result<RxText, Memory>
 }
 
 /// The canonical text of an app: a line for the budget, and a line for each item in its order. Where
-/// each name is a word that isn't reserved, as in every app of a file, the text stands for this app,
-/// but that it may be longer than a file may be.
+/// each name is a word that isn't reserved, as in each app that `app_check::load` answers, the text
+/// stands for this app, but that it may be longer than a file may be.
 pub fn print(alloc: Global, app: &App) -> Result<RxText, Memory>
     ensures text { IfOk result (λ text. text ≡ canonical_text (shape_of app.now)) }
     ensures utf8 { IfOk result (λ text. IsUtf8 text) }

@@ -1,15 +1,13 @@
 -- What is taken and meets no fault is done, or memory is wanting.
-use Rattle.std.proofs.Common.{◌≡◌, ◌≢◌, ℕ, List, Option, Some, None, IfSome, Result, Ok, Err, refl, sym, ap, ◌∙◌, subst, inl, inr}
-use Rattle.std.specs.Prelude.{◌⊎◌, ⊤, String}
+use Rattle.std.proofs.Common.{◌≡◌, ◌≢◌, ℕ, List, Option, Some, None, IfSome, Ok, sym, ap, ◌∙◌, subst, inl, inr}
+use Rattle.std.specs.Prelude.{⊤, String}
 use Rattle.std.specs.declared.alloc.Global.{Global}
 use Rattle.rx_ports.specs.Faults.{Rose}
 use Rattle.rx_ports.specs.Files.{content_of}
 use Rattle.rx_ports.specs.declared.files.NamedFile.{NamedFile}
 use Rattle.app_tree.specs.Tree.{Shape}
-use Rattle.app_check.specs.declared.error.LoadError.{LoadError}
 use Rattle.app_check.specs.Load.{loaded}
 use Rattle.app_printer.specs.Canonical.{canonical_text}
-use Rattle.flush_cycle.specs.Built.{first_unbuilt}
 use Rattle.session_model.specs.EarlyTranscript.{ReplayEnd, done, bad_line, no_session, replayed}
 use Rattle.shiny_main.specs.declared.words.Command.{Command}
 use Rattle.shiny_main.specs.declared.words.Command.TheVariants as command
@@ -18,8 +16,6 @@ use Rattle.shiny_main.specs.declared.status.Status.TheVariants as status
 use Rattle.shiny_main.specs.declared.ended.Ended.{Ended}
 use Rattle.shiny_main.specs.declared.ended.Ended.TheVariants as ended
 use Rattle.shiny_main.specs.Ends.{status_of}
-use Rattle.shiny_main.specs.Words.{words_of}
-use Rattle.shiny_main.specs.Notes.{note_text, IsNoted}
 use Rattle.shiny_main.specs.Commands.{Ports, Says, count_line, Writes, ReplayedGives, RunsBuilt, CommandGives, AppGives}
 use Rattle.shiny_main.specs.Top.{IsRead, ReadGives, FileGives, WordsGive, RunGives, FileFaults, InputFaults, OutputFaults, IsReplayable, IsReady, IsTaken, IsDoneOrMemory}
 
@@ -64,7 +60,7 @@ replayed_well app p ended.Memory ready g = tt
 
 command_well : (c : Command) (app : Shape) (p : Ports) (e : Ended) → IsReady c app p.left → CommandGives c app p e → IsDoneOrFault e
 command_well command.Check app p e ready g = said_well (count_line app) p e g
-command_well command.Print app p e ready g = said_well (canonical_text app) p e g
+command_well command.Print app p e ready g = said_well (canonical_text app) p e g.0
 command_well command.Replay app p e ready g =
     replayed_well app p e ready (subst (λ unbuilt. RunsBuilt unbuilt app p e) ready.built g)
 

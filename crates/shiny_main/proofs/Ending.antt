@@ -1,6 +1,6 @@
 -- What the work did, by how it ended.
-use Rattle.std.proofs.Common.{◌≡◌, ◌≢◌, ℕ, zero, suc, ◌<◌, ◌≤◌, Bool, true, false, List, [], ◌∷◌, ◌++◌, length, take, Option, Some, None, IfSome, Result, Ok, Err, refl, sym, ap, ◌∙◌, subst, arith, inl, inr}
-use Rattle.std.specs.Prelude.{nat_lt, ◌⊎◌, ⊤}
+use Rattle.std.proofs.Common.{◌≡◌, ℕ, zero, suc, ◌<◌, ◌≤◌, Bool, true, false, List, [], ◌∷◌, ◌++◌, length, take, Option, Some, None, IfSome, Result, Ok, Err, refl, sym, ap, ◌∙◌, subst, arith, inl, inr}
+use Rattle.std.specs.Prelude.{nat_lt}
 use Rattle.std.specs.Option.{option_map}
 use Rattle.std.specs.Io.KnownBytes.{append_known}
 use Rattle.std.proofs.lemmas.Bool.Decides.{nat_tests}
@@ -25,7 +25,7 @@ use Rattle.shiny_main.specs.Notes.{IsComposed}
 use Rattle.shiny_main.specs.Lines.{remaining}
 use Rattle.shiny_main.specs.Replaying.{Ends, Stops, ReplayGives as LinesGive}
 use Rattle.app_printer.specs.Canonical.{canonical_text}
-use Rattle.shiny_main.specs.Commands.{Ports, IsUntouched, Says, count_line, Writes, WritesFront, ReplayedGives, RunsBuilt, CommandGives, AppGives, Refuses}
+use Rattle.shiny_main.specs.Commands.{Ports, IsUntouched, Says, count_line, Writes, WritesFront, ReplayedGives, RunsBuilt, CommandGives, AppGives}
 use Rattle.shiny_main.specs.Top.{IsRead, ReadGives, FileGives, WordsGive}
 
 -- ---- a replay, from its lines
@@ -72,7 +72,7 @@ untouched_built (Some k) app p h = (tt, h)
 
 pub untouched_command : (c : Command) (app : Shape) (p : Ports) → IsUntouched p → CommandGives c app p ended.Memory
 untouched_command command.Check app p h = (h.read, h.written)
-untouched_command command.Print app p h = (h.read, h.written)
+untouched_command command.Print app p h = ((h.read, h.written), tt)
 untouched_command command.Replay app p h = untouched_built (first_unbuilt app.items) app p h
 
 pub untouched_app : (c : Command) (r : Result Shape LoadError) (p : Ports) → IsUntouched p → AppGives c r p ended.Memory
@@ -127,7 +127,7 @@ built_absent (Some k) app p g = g.0
 
 app_absent : (c : Command) (r : Result Shape LoadError) (p : Ports) → ¬ AppGives c r p ended.FileAbsent
 app_absent command.Check (Ok app) p g = g.1
-app_absent command.Print (Ok app) p g = g.1
+app_absent command.Print (Ok app) p g = g.0.1
 app_absent command.Replay (Ok app) p g = built_absent (first_unbuilt app.items) app p g
 app_absent command.Check (Err r) p g = g.0
 app_absent command.Print (Err r) p g = g.0
@@ -139,7 +139,7 @@ built_fault (Some k) app p g = g.0
 
 app_fault : (c : Command) (r : Result Shape LoadError) (p : Ports) → ¬ AppGives c r p ended.FileFault
 app_fault command.Check (Ok app) p g = g.1
-app_fault command.Print (Ok app) p g = g.1
+app_fault command.Print (Ok app) p g = g.0.1
 app_fault command.Replay (Ok app) p g = built_fault (first_unbuilt app.items) app p g
 app_fault command.Check (Err r) p g = g.0
 app_fault command.Print (Err r) p g = g.0
@@ -207,7 +207,7 @@ said_memory ended.Memory P text p c g = absurd c
 
 app_memory : (c : Command) (r : Result Shape LoadError) (p : Ports) (e : Ended) → IsComposed e → AppGives c r p e → AppGives c r p ended.Memory
 app_memory command.Check (Ok app) p e i g = said_memory e (AppGives command.Check (Ok app) p ended.Memory) (count_line app) p i g
-app_memory command.Print (Ok app) p e i g = said_memory e (AppGives command.Print (Ok app) p ended.Memory) (canonical_text app) p i g
+app_memory command.Print (Ok app) p e i g = said_memory e (AppGives command.Print (Ok app) p ended.Memory) (canonical_text app) p i g.0
 app_memory command.Replay (Ok app) p e i g = built_memory (first_unbuilt app.items) app p e i g
 app_memory command.Check (Err r) p e i g = (tt, g.1)
 app_memory command.Print (Err r) p e i g = (tt, g.1)

@@ -1,5 +1,5 @@
 -- What each command does with the app of its file.
-use Rattle.std.specs.Prelude.{◌≡◌, ℕ, List, ◌++◌, length, map, codes, Option, Some, None, ⊤, IfSome, Result, Ok, Err, slice_get}
+use Rattle.std.specs.Prelude.{◌≡◌, ℕ, List, ◌++◌, length, codes, Option, Some, None, ⊤, IfSome, Result, Ok, Err, slice_get}
 use Rattle.std.specs.Fmt.{decimal}
 use Rattle.std.specs.Io.KnownBytes.{append_known, IsAtEnd}
 use Rattle.rx_ports.specs.Sink.{PutsFront}
@@ -7,9 +7,9 @@ use Rattle.rx_value.specs.declared.memory.Memory.{Memory}
 use Rattle.app_tree.specs.Tree.{Node, Shape}
 use Rattle.app_tree.specs.Numbering.{name_of}
 use Rattle.app_check.specs.declared.error.LoadError.{LoadError}
-use Rattle.app_check.specs.Load.{loaded}
 use Rattle.app_check.specs.Text.{refusal_text}
 use Rattle.app_printer.specs.Canonical.{canonical_text}
+use Rattle.app_printer.specs.Laws.{ReadsBack}
 use Rattle.session_model.specs.EarlyTranscript.{ReplayEnd, done, bad_line, no_session, replayed}
 use Rattle.flush_cycle.specs.Built.{first_unbuilt}
 use Rattle.shiny_main.specs.declared.words.Command.{Command}
@@ -49,6 +49,15 @@ Says text p e = (p.left_after ≡ p.left) × IsPut text p.held p.held_after e
 -- `ok N` with a line feed, N the number of the app's items
 abbrev pub count_line : Shape → List ℕ
 count_line app = codes "ok " ++ decimal (length app.items) ++ codes "\n"
+
+-- what was written whole stands for the app again
+abbrev pub IsReadBack : Shape → Ended → Type 0
+IsReadBack app ended.Done = ReadsBack app
+IsReadBack app _ = ⊤
+
+-- the app's canonical text, which stands for it again
+abbrev pub Prints : Shape → Ports → Ended → Type 0
+Prints app p e = Says (canonical_text app) p e × IsReadBack app e
 
 -- ---- a replay
 
@@ -104,7 +113,7 @@ RunsBuilt (Some k) app p e = Refuses (not_yet_text app k) p e
 
 abbrev pub CommandGives : Command → Shape → Ports → Ended → Type 0
 CommandGives command.Check app p e = Says (count_line app) p e
-CommandGives command.Print app p e = Says (canonical_text app) p e
+CommandGives command.Print app p e = Prints app p e
 CommandGives command.Replay app p e = RunsBuilt (first_unbuilt app.items) app p e
 
 -- with the app that the file's bytes stand for, or its refusal

@@ -1,10 +1,12 @@
 //! What each command does with the app of its file.
 
-ghost use Rattle.std.specs.Prelude.{◌≡◌, ◌≤◌, IfOk, codes, ◌++◌};
+ghost use Rattle.std.specs.Prelude.{◌≡◌, ◌≤◌, true, IfOk, codes, ◌++◌};
 ghost use Rattle.rx_ports.specs.Faults.{Rose};
+ghost use Rattle.app_tree.specs.Named.{named};
 ghost use Rattle.app_tree.specs.View.{shape_of};
 ghost use Rattle.app_check.specs.Load.{loaded};
 ghost use Rattle.app_check.specs.Text.{refusal_text};
+ghost use Rattle.app_check.specs.Words.{has_words};
 ghost use Rattle.flush_cycle.specs.Built.{IsBuilt};
 ghost use Rattle.shiny_main.specs.Ends.{InputFaults, OutputFaults};
 ghost use Rattle.shiny_main.specs.Commands.{IsMade, IsRefused, count_line, name_at, not_yet_text, ReplayedGives, RunsBuilt, CommandGives, AppGives};
@@ -109,6 +111,7 @@ fn run_command<S: Source, K: Sink>(
     input: &mut S,
     out: &mut K,
 ) -> Ended
+    requires { has_words (named (shape_of app)) ≡ true }
     ensures gives { CommandGives command (shape_of app) (record { left = S.left input.old; left_after = S.left input.new; held = K.held out.old; held_after = K.held out.new }) result }
     ensures read_later { S.faults input.old ≤ S.faults input.new }
     ensures write_later { K.faults out.old ≤ K.faults out.new }
