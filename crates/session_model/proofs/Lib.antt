@@ -2,3 +2,4 @@ pub mod Journals
 pub mod EarlyMessages
 pub mod TranscriptLines
 pub mod Expected
+pub mod Agreeing

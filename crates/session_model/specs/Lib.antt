@@ -20,3 +20,4 @@ pub mod Early
 pub mod EarlyTranscript
 pub mod Examples
 pub mod Laws
+pub mod AskedLaws

@@ -1,5 +1,6 @@
 //! What is expected of a session, whatever its app. Each function does nothing: it is there for its contract.
 
+ghost use Rattle.session_model.specs.AskedLaws.{EqualAnswersGiveEqual};
 ghost use Rattle.session_model.specs.Laws.{EqualValueChangesNothing, DoneIsSettled, IsWithinBudget, AnswersGoOn, OverStays, OverIsSilent};
 
 /// Setting a source to the value that it has changes nothing.
@@ -22,4 +23,10 @@ pub fn journal_laws()
     ensures front { AnswersGoOn }
     ensures stays { OverStays }
     ensures silent { OverIsSilent }
+{}
+
+/// Equal answers to what an evaluation asks give an equal evaluation.
+#[tactic(auto, using(crate::proofs::Agreeing::equal_answers_give_equal))]
+pub fn evaluation_laws()
+    ensures { EqualAnswersGiveEqual }
 {}
