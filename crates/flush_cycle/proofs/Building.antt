@@ -105,10 +105,10 @@ tail_built : (b : Bool) (n : ℕ) (o : Option ℕ) → (if b then o else Some n)
 tail_built true n o e = e
 tail_built false n o e = cc
 
-first_built : (n : ℕ) (i : Node) (items : List Node) → unbuilt_from n (i ∷ items) ≡ None → is_built i ≡ true
+pub first_built : (n : ℕ) (i : Node) (items : List Node) → unbuilt_from n (i ∷ items) ≡ None → is_built i ≡ true
 first_built n i items h = head_built (is_built i) n (unbuilt_from (suc n) items) h
 
-rest_built : (n : ℕ) (i : Node) (items : List Node) → unbuilt_from n (i ∷ items) ≡ None → unbuilt_from (suc n) items ≡ None
+pub rest_built : (n : ℕ) (i : Node) (items : List Node) → unbuilt_from n (i ∷ items) ≡ None → unbuilt_from (suc n) items ≡ None
 rest_built n i items h = tail_built (is_built i) n (unbuilt_from (suc n) items) h
 
 built_from : (n : ℕ) (items : List Node) (p : ℕ) (i : Node) → unbuilt_from n items ≡ None → slice_get items p ≡ Some i → is_built i ≡ true

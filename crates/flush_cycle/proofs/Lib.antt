@@ -5,3 +5,8 @@ pub mod Passing
 pub mod Going
 pub mod Sending
 pub mod EarlyTexts
+pub mod WholeRuns
+pub mod WholeNames
+pub mod WholeTexts
+pub mod WholeMessages
+pub mod WholeCourses
