@@ -10,3 +10,5 @@ pub mod WholeNames
 pub mod WholeTexts
 pub mod WholeMessages
 pub mod WholeCourses
+pub mod WholeStart
+pub mod WholeTranscripts

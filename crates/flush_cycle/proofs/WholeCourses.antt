@@ -116,6 +116,12 @@ module _ (app : Shape) (built : first_unbuilt app.items ≡ None) where
         (update_whole w t pairs (p.ending ∙ ap (option_map wide_ending) en) (p.begun ∙ b) c
           ∙ ap (λ s. whole.flushes false (whole.applied app pairs s)) p.state ∙ ap (whole.flushes false) (applied_same pairs e.state p.thawed (early_known app false t pairs h)))
 
+  -- a message that is taken begins the session, or goes on with it
+  pub begun_after : (e : early.Course) (t : List ℕ) (first : Bool) (pairs : List Pair) → e.ending ≡ None → e.begun ≡ not first → early_pairs app first t ≡ Some pairs
+      → (early.after_event app e (event.Text t)).begun ≡ true
+  begun_after e t true pairs en b h = ap (λ z. (early.course_after e (suc e.items) z).begun) (init_early e t pairs en b (early_init app t pairs h))
+  begun_after e t false pairs en b h = ap (λ z. (early.course_after e (suc e.items) z).begun) (update_early e t pairs en b (early_update app t pairs h))
+
   -- the end of the link
   pub end_event_same : (label : List ℕ) (e : early.Course) (w : whole.Course) → IsPart e w → e.ending ≡ None → IsSameEvent label e w event.End
   end_event_same label e w p en =

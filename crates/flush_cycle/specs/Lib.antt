@@ -4,3 +4,4 @@ pub mod Passed
 pub mod Sent
 pub mod Flushing
 pub mod EarlyJson
+pub mod Whole

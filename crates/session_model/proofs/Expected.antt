@@ -111,7 +111,7 @@ is_within_budget app state = let most = (rests app app.budget state [] 0).1 in o
 
 -- ---- a journal
 
-course_from-append : (app : Shape) (course : Course) (front back : List Event) → course_from app course (front ++ back) ≡ course_from app (course_from app course front) back
+pub course_from-append : (app : Shape) (course : Course) (front back : List Event) → course_from app course (front ++ back) ≡ course_from app (course_from app course front) back
 course_from-append app course [] back = refl
 course_from-append app course (event ∷ front) back = course_from-append app (after_event app course event) front back
 

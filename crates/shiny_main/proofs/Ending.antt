@@ -12,7 +12,9 @@ use Rattle.app_tree.specs.Tree.{Shape}
 use Rattle.app_check.specs.declared.error.LoadError.{LoadError}
 use Rattle.app_check.specs.declared.error.LoadError.TheVariants as error
 use Rattle.app_check.specs.Load.{loaded, within_limit, is_short}
-use Rattle.flush_cycle.specs.Built.{first_unbuilt}
+use Rattle.flush_cycle.specs.Built.{first_unbuilt, IsBuilt}
+use Rattle.flush_cycle.proofs.WholeTranscripts.{taken_is_whole}
+use Rattle.session_model.specs.Transcript as whole
 use Rattle.session_model.specs.EarlyTranscript.{ReplayEnd, done, bad_line, no_session, Replayed, replay_from, replayed}
 use Rattle.shiny_main.specs.declared.words.Command.{Command}
 use Rattle.shiny_main.specs.declared.words.Command.TheVariants as command
@@ -25,7 +27,7 @@ use Rattle.shiny_main.specs.Notes.{IsComposed}
 use Rattle.shiny_main.specs.Lines.{remaining}
 use Rattle.shiny_main.specs.Replaying.{Ends, Stops, ReplayGives as LinesGive}
 use Rattle.app_printer.specs.Canonical.{canonical_text}
-use Rattle.shiny_main.specs.Commands.{Ports, IsUntouched, Says, count_line, Writes, WritesFront, ReplayedGives, RunsBuilt, CommandGives, AppGives}
+use Rattle.shiny_main.specs.Commands.{Ports, IsUntouched, Says, count_line, Writes, WritesWhole, WritesFront, ReplayedGives, RunsBuilt, CommandGives, AppGives}
 use Rattle.shiny_main.specs.Top.{IsRead, ReadGives, FileGives, WordsGive}
 
 -- ---- a replay, from its lines
@@ -45,13 +47,23 @@ writes app p end h = record { output = h.output; sank = h.sank; is = told_end ap
 writes_front : (app : Shape) (p : Ports) → Stops app 1 None (remaining [] p.left) p.held p.held_after → WritesFront app p
 writes_front app p h = record { output = h.output; sank = h.sank; front = told_front app p.left h.output h.front }
 
-pub replayed_gives : (app : Shape) (p : Ports) (a : ReplayAnswer) → LinesGive app 1 None (remaining [] p.left) p.left_after p.held p.held_after a → ReplayedGives app p (ended_by a)
-replayed_gives app p answer.Done h = (writes app p done h.0, h.1)
-replayed_gives app p (answer.BadLine j) h = writes app p (bad_line j) h
-replayed_gives app p (answer.NoSession j) h = writes app p (no_session j) h
-replayed_gives app p answer.ReadFault h = writes_front app p h
-replayed_gives app p answer.WriteFault h = writes_front app p h
-replayed_gives app p answer.Memory h = writes_front app p h
+-- what is taken whole has the same output by the whole definitions
+whole_end : (app : Shape) (left : Option (List ℕ)) (output : List ℕ) → IsBuilt app → IfSome left (λ bytes. replayed app bytes ≡ record { output = output; end = done })
+    → IfSome left (λ bytes. whole.replayed app bytes ≡ record { output = output; end = whole.done })
+whole_end app None output built h = tt
+whole_end app (Some bytes) output built h =
+    taken_is_whole app bytes built (ap (λ r. r.end) h) ∙ ap (λ r. record { output = r.output; end = whole.done }) h
+
+writes_whole : (app : Shape) (p : Ports) → IsBuilt app → Writes app p done → WritesWhole app p
+writes_whole app p built w = record { output = w.output; sank = w.sank; is = whole_end app p.left w.output built w.is }
+
+pub replayed_gives : (app : Shape) (p : Ports) (a : ReplayAnswer) → IsBuilt app → LinesGive app 1 None (remaining [] p.left) p.left_after p.held p.held_after a → ReplayedGives app p (ended_by a)
+replayed_gives app p answer.Done built h = (writes_whole app p built (writes app p done h.0), h.1)
+replayed_gives app p (answer.BadLine j) built h = writes app p (bad_line j) h
+replayed_gives app p (answer.NoSession j) built h = writes app p (no_session j) h
+replayed_gives app p answer.ReadFault built h = writes_front app p h
+replayed_gives app p answer.WriteFault built h = writes_front app p h
+replayed_gives app p answer.Memory built h = writes_front app p h
 
 -- ---- nothing was done for want of memory
 

@@ -10,7 +10,8 @@ use Rattle.app_check.specs.declared.error.LoadError.{LoadError}
 use Rattle.app_check.specs.Text.{refusal_text}
 use Rattle.app_printer.specs.Canonical.{canonical_text}
 use Rattle.app_printer.specs.Laws.{ReadsBack}
-use Rattle.session_model.specs.EarlyTranscript.{ReplayEnd, done, bad_line, no_session, replayed}
+use Rattle.session_model.specs.Transcript as whole
+use Rattle.session_model.specs.EarlyTranscript.{ReplayEnd, bad_line, no_session, replayed}
 use Rattle.flush_cycle.specs.Built.{first_unbuilt}
 use Rattle.shiny_main.specs.declared.words.Command.{Command}
 use Rattle.shiny_main.specs.declared.words.Command.TheVariants as command
@@ -67,6 +68,13 @@ pub record Writes (app : Shape) (p : Ports) (end : ReplayEnd) : Type 0 where
   pub sank : p.held_after ≡ append_known p.held output
   pub is : IfSome p.left (λ bytes. replayed app bytes ≡ record { output = output; end = end })
 
+-- the output was written that the transcript has by the definitions of the whole language and of several sessions, by
+-- which each of its lines is taken
+pub record WritesWhole (app : Shape) (p : Ports) : Type 0 where
+  pub output : List ℕ
+  pub sank : p.held_after ≡ append_known p.held output
+  pub is : IfSome p.left (λ bytes. whole.replayed app bytes ≡ record { output = output; end = whole.done })
+
 -- a front of it was written
 pub record WritesFront (app : Shape) (p : Ports) : Type 0 where
   pub output : List ℕ
@@ -75,7 +83,7 @@ pub record WritesFront (app : Shape) (p : Ports) : Type 0 where
 
 -- at Done all lines were taken and the input is at its end; at BadLine and NoSession that line was refused
 abbrev pub ReplayedGives : Shape → Ports → Ended → Type 0
-ReplayedGives app p ended.Done = Writes app p done × IsAtEnd p.left_after
+ReplayedGives app p ended.Done = WritesWhole app p × IsAtEnd p.left_after
 ReplayedGives app p (ended.BadLine k) = Writes app p (bad_line k)
 ReplayedGives app p (ended.NoSession k) = Writes app p (no_session k)
 ReplayedGives app p ended.ReadFault = WritesFront app p
