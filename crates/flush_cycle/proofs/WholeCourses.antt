@@ -73,9 +73,9 @@ module _ (app : Shape) (built : first_unbuilt app.items ≡ None) where
   flushes_same label e w t b pairs p by_e by_w =
       let f = early.applied app pairs e.state in
       let part : IsPart (early.course_after e (suc e.items) (early.flushes b f)) (whole.course_after w (suc w.items) (whole.flushes b (wide app built f))) =
-          record { state = refl; begun = refl; items = ap suc p.items; ending = end_same f.end; thawed = applied_thawed pairs e.state p.thawed } in
+      record { state = refl; begun = refl; items = ap suc p.items; ending = end_same f.end; thawed = applied_thawed pairs e.state p.thawed } in
       let half : IsPart (early.course_after e (suc e.items) (early.flushes b f)) (whole.after_event app w (event.Text t)) =
-          subst (λ z. IsPart (early.course_after e (suc e.items) (early.flushes b f)) (whole.course_after w (suc w.items) z)) (sym by_w) part in
+      subst (λ z. IsPart (early.course_after e (suc e.items) (early.flushes b f)) (whole.course_after w (suc w.items) z)) (sym by_w) part in
       record {
         after = subst (λ z. IsPart (early.course_after e (suc e.items) z) (whole.after_event app w (event.Text t))) (sym by_e) half;
         texts = ap (whole.effect_texts app label) by_w ∙ texts_by label b pairs e.state ∙ sym (ap (early.effect_texts app label) by_e);
@@ -108,13 +108,13 @@ module _ (app : Shape) (built : first_unbuilt app.items ≡ None) where
   message_same label e w t true pairs p en b h =
       let c = early_init app t pairs h in
       flushes_same label e w t true pairs p (init_early e t pairs en b c)
-        (init_whole w t pairs (p.ending ∙ ap (option_map wide_ending) en) (p.begun ∙ b) c
-          ∙ ap (λ s. whole.flushes true (whole.applied app pairs s)) p.state ∙ ap (whole.flushes true) (applied_same pairs e.state p.thawed (early_known app true t pairs h)))
+      (init_whole w t pairs (p.ending ∙ ap (option_map wide_ending) en) (p.begun ∙ b) c
+      ∙ ap (λ s. whole.flushes true (whole.applied app pairs s)) p.state ∙ ap (whole.flushes true) (applied_same pairs e.state p.thawed (early_known app true t pairs h)))
   message_same label e w t false pairs p en b h =
       let c = early_update app t pairs h in
       flushes_same label e w t false pairs p (update_early e t pairs en b c)
-        (update_whole w t pairs (p.ending ∙ ap (option_map wide_ending) en) (p.begun ∙ b) c
-          ∙ ap (λ s. whole.flushes false (whole.applied app pairs s)) p.state ∙ ap (whole.flushes false) (applied_same pairs e.state p.thawed (early_known app false t pairs h)))
+      (update_whole w t pairs (p.ending ∙ ap (option_map wide_ending) en) (p.begun ∙ b) c
+      ∙ ap (λ s. whole.flushes false (whole.applied app pairs s)) p.state ∙ ap (whole.flushes false) (applied_same pairs e.state p.thawed (early_known app false t pairs h)))
 
   -- a message that is taken begins the session, or goes on with it
   pub begun_after : (e : early.Course) (t : List ℕ) (first : Bool) (pairs : List Pair) → e.ending ≡ None → e.begun ≡ not first → early_pairs app first t ≡ Some pairs
@@ -128,9 +128,9 @@ module _ (app : Shape) (built : first_unbuilt app.items ≡ None) where
       let by_e : early.effect app e event.End ≡ early.ends = ap (λ o. early.effect_from app e o event.End) en in
       let by_w : whole.effect app w event.End ≡ whole.ends = ap (λ o. whole.effect_from app w o event.End) (p.ending ∙ ap (option_map wide_ending) en) in
       let part : IsPart (early.course_after e e.items early.ends) (whole.course_after w w.items whole.ends) =
-          record { state = p.state; begun = p.begun; items = p.items; ending = refl; thawed = p.thawed } in
+      record { state = p.state; begun = p.begun; items = p.items; ending = refl; thawed = p.thawed } in
       let half : IsPart (early.course_after e e.items early.ends) (whole.after_event app w event.End) =
-          subst (λ z. IsPart (early.course_after e e.items early.ends) (whole.course_after w w.items z)) (sym by_w) part in
+      subst (λ z. IsPart (early.course_after e e.items early.ends) (whole.course_after w w.items z)) (sym by_w) part in
       record {
         after = subst (λ z. IsPart (early.course_after e e.items z) (whole.after_event app w event.End)) (sym by_e) half;
         texts = ap (whole.effect_texts app label) by_w ∙ sym (ap (early.effect_texts app label) by_e);

@@ -64,7 +64,7 @@ module _ (app : Shape) (first : Bool) where
   pair_known key d h =
       let plain : list_any is_colon key ≡ false = not_false (list_any is_colon key) (first_true (not (list_any is_colon key)) _ h) in
       subst IsKnownName (sym (stays key plain))
-        (either_known (is_whole d) (is_some (input_number key app.items)) first (is_some (hidden_output key app.items)) (is_truth d) (second_true (not (list_any is_colon key)) _ h))
+      (either_known (is_whole d) (is_some (input_number key app.items)) first (is_some (hidden_output key app.items)) (is_truth d) (second_true (not (list_any is_colon key)) _ h))
 
   members_known : (ms : Members) → are_early_pairs app first ms ≡ true → Every (IsKnown app) (pairs_of ms)
   members_known no_members h = tt
@@ -103,7 +103,7 @@ module _ (app : Shape) (first : Bool) where
   json_known (Some (array ds)) pairs h e = absurd e
   json_known (Some (object ms)) pairs h e =
       method_known (option_and_then as_str (get_member (codes "method") ms)) (option_and_then as_object (get_member (codes "data") ms)) pairs
-        (second_true (member_count ms == 2) (has_early_data app first (option_and_then as_object (get_member (codes "data") ms))) h) e
+      (second_true (member_count ms == 2) (has_early_data app first (option_and_then as_object (get_member (codes "data") ms))) h) e
 
   short_known : (b : Bool) (d : Option Data) (pairs : List Pair) → is_early_json app first d ≡ true → Sets (if b then json_message d else Refused bad.TooLong) pairs → Every (IsKnown app) pairs
   short_known true d pairs h e = json_known d pairs h e

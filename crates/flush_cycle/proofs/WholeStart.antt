@@ -57,8 +57,8 @@ module _ (app : Shape) (built : first_unbuilt app.items ≡ None) where
   starting_thawed : Thawed (starting_values app.items)
   starting_thawed =
       both_thawed (map declared_value (declared_sources app.items) ++ unknown_sizes app.items) (unknown_sizes app.items)
-        (both_thawed (map declared_value (declared_sources app.items)) (unknown_sizes app.items) (all_declared (declared_sources app.items)) (all_plain (filter is_output app.items)))
-        (all_plain (filter is_output app.items))
+      (both_thawed (map declared_value (declared_sources app.items)) (unknown_sizes app.items) (all_declared (declared_sources app.items)) (all_plain (filter is_output app.items)))
+      (all_plain (filter is_output app.items))
 
   -- a session begins alike
   pub first_part : IsPart app built (early.first_course app) (whole.first_course app)

@@ -53,7 +53,7 @@ behind_same : (items : List Node) (label rest : List ℕ) (l : early.Line) → e
 behind_same items label rest l h =
     let w = word_same items label (before_first is_space rest) (after_first is_space rest) (has_space rest) l h in
     subst (λ l. IsMessage l (whole.line_behind items label rest)) (sym w.2)
-      (ap (λ b. if b then whole.line_by items label (before_first is_space rest) (after_first is_space rest) else (if bytes_eq rest (codes "close") then Some (whole.closes label) else None)) w.0 ∙ w.1)
+    (ap (λ b. if b then whole.line_by items label (before_first is_space rest) (after_first is_space rest) else (if bytes_eq rest (codes "close") then Some (whole.closes label) else None)) w.0 ∙ w.1)
 
 parts_same : (items : List Node) (line : List ℕ) (l : early.Line) → early.parts_of line ≡ Some l → IsMessage l (whole.parts_of items line)
 parts_same items line l h =
@@ -65,9 +65,10 @@ parts_same items line l h =
 line_same : (items : List Node) (line : List ℕ) (l : early.Line) → early.line_of line ≡ Some l → (length line ≤ 70000) × IsMessage l (whole.line_of items line)
 line_same items line l h =
     let g = given_if (nat_le (length line) line_limit && is_utf8 line) (early.parts_of line) l h in
-    let b = both_true (nat_le (length line) line_limit) (is_utf8 line) g.0 in
-    (leb-true (length line) 70000 b.0,
-      subst (IsMessage l) (sym (ap (λ b. if b then whole.parts_of items line else None) g.0)) (parts_same items line l g.1))
+    let b = both_true (nat_le (length line) line_limit) (is_utf8 line) g.0 in (
+      leb-true (length line) 70000 b.0,
+      subst (IsMessage l) (sym (ap (λ b. if b then whole.parts_of items line else None) g.0)) (parts_same items line l g.1),
+    )
 
 -- ---- how long a text is
 
@@ -104,7 +105,7 @@ module _ (app : Shape) where
   whole_added label journal ev =
       let texts = whole_alone.texts_of_event app label (whole_alone.course_of app journal) ev in
       ap (drop (length (whole_alone.answers app label journal)))
-        (answers_from-append app label (whole_alone.first_course app) journal (ev ∷ []) ∙ ap (λ l. whole_alone.answers app label journal ++ l) (append-nil texts))
+      (answers_from-append app label (whole_alone.first_course app) journal (ev ∷ []) ∙ ap (λ l. whole_alone.answers app label journal ++ l) (append-nil texts))
       ∙ drop-front (whole_alone.answers app label journal) texts
 
 length-more : (journal : List Event) (ev : Event) → length (journal ++ ev ∷ []) ≡ suc (length journal)
@@ -141,7 +142,7 @@ module _ (app : Shape) (built : first_unbuilt app.items ≡ None) where
       → IsSameEvent app built s.label (early_alone.course_of app s.journal) (whole_alone.course_of app w.journal) ev → whole.event_output app ev w ≡ early.event_output app ev s
   event_same s w ev l j same =
       let over : whole_alone.ending app (w.journal ++ ev ∷ []) ≡ option_map wide_ending (early_alone.ending app (s.journal ++ ev ∷ [])) =
-          ap (λ c. c.ending) (whole_course-more app w.journal ev) ∙ same.after.ending ∙ sym (ap (λ c. option_map wide_ending c.ending) (early_journals.course_of-more app s.journal ev)) in
+      ap (λ c. c.ending) (whole_course-more app w.journal ev) ∙ same.after.ending ∙ sym (ap (λ c. option_map wide_ending c.ending) (early_journals.course_of-more app s.journal ev)) in
       ap (λ label. send_lines label (whole.added_texts app label w.journal (w.journal ++ ev ∷ [])) ++ whole.over_line label (whole_alone.ending app (w.journal ++ ev ∷ []))) l
       ∙ ap (λ texts. send_lines s.label texts ++ whole.over_line s.label (whole_alone.ending app (w.journal ++ ev ∷ []))) (whole_added app s.label w.journal ev ∙ same.texts ∙ sym (early_journals.added_texts-more app s.label s.journal ev))
       ∙ ap (λ o. send_lines s.label (early.added_texts app s.label s.journal (s.journal ++ ev ∷ [])) ++ o) (ap (whole.over_line s.label) over ∙ over_same s.label (early_alone.ending app (s.journal ++ ev ∷ [])))
@@ -164,7 +165,7 @@ module _ (app : Shape) (built : first_unbuilt app.items ≡ None) where
     journal = ap (λ l. l ++ event.Text t ∷ []) j;
     open_ = f;
     part =
-      subst (λ c. IsPart app built c (whole_alone.course_of app (w.journal ++ event.Text t ∷ []))) (sym (early_journals.course_of-more app s.journal (event.Text t)))
+        subst (λ c. IsPart app built c (whole_alone.course_of app (w.journal ++ event.Text t ∷ []))) (sym (early_journals.course_of-more app s.journal (event.Text t)))
         (subst (IsPart app built (early_alone.after_event app (early_alone.course_of app s.journal) (event.Text t))) (sym (whole_course-more app w.journal (event.Text t))) same.after);
     begun = ap (λ c. c.begun) (early_journals.course_of-more app s.journal (event.Text t)) ∙ begun;
     few = let one = length-more w.journal (event.Text t) in omega (few, one, arith);
@@ -232,7 +233,7 @@ module _ (app : Shape) (built : first_unbuilt app.items ≡ None) where
       let its : bytes_eq label w.label ≡ true = ap (λ l. bytes_eq l w.label) (at ∙ sym m.label) ∙ itself w.label in
       let over : whole.is_over app w ≡ false = ap (λ b. b || is_some (whole_alone.ending app w.journal)) m.open_ ∙ ap is_some (m.part.ending ∙ ap (option_map wide_ending) en) in
       let one : whole.with_session (whole.with_event (event.Text t) w) (w ∷ []) ≡ whole.with_event (event.Text t) w ∷ [] =
-          ap (λ b. if b then whole.with_event (event.Text t) w ∷ [] else w ∷ whole.with_event (event.Text t) w ∷ []) (itself w.label) in
+      ap (λ b. if b then whole.with_event (event.Text t) w ∷ [] else w ∷ whole.with_event (event.Text t) w ∷ []) (itself w.label) in
       ap (λ b. whole.received app k (w ∷ []) (event.Text t) label (if b then Some w else None) next_w) its
       ∙ ap (λ b. whole.taken app k (w ∷ []) (event.Text t) w b next_w) over
       ∙ event_step k s w t (w ∷ []) next_e next_w within after m.few m.short (event_same s w (event.Text t) m.label m.journal same) one go end
@@ -277,7 +278,7 @@ module _ (app : Shape) (built : first_unbuilt app.items ≡ None) where
       let end : (next_e (Some (early.with_event (event.Text t) s))).end ≡ early.done = subst (λ o. (early.received app k (event.Text t) s o next_e).end ≡ early.done) en r2 in
       later_step k s w label t p.0 next_e next_w m ((bytes_eq-Decides label s.label).0 b.1) (leb-true k 200 b.0) short p.1 en go end
       ∙ sym (ap (λ c. taken_whole (if c then early.if_early app k t s (early_pairs app false t) next_e else early.stopped (early.bad_line k))) taken ∙ ap (λ o. taken_whole (early.if_early app k t s o next_e)) p.1
-        ∙ ap (λ o. taken_whole (early.received app k (event.Text t) s o next_e)) en)
+      ∙ ap (λ o. taken_whole (early.received app k (event.Text t) s o next_e)) en)
   message_step k label t None (w ∷ ws) next_e next_w m least short go h = absurd m
   message_step k label t (Some s) [] next_e next_w m least short go h = absurd m
   message_step k label t (Some s) (w ∷ v ∷ ws) next_e next_w m least short go h = absurd m
@@ -315,7 +316,7 @@ module _ (app : Shape) (built : first_unbuilt app.items ≡ None) where
   replays [] k (Some s) (w ∷ v ∷ ws) m least within h = absurd m
   replays (line ∷ more) k so sw m least within h =
       line_step k line so sw (λ n. early.replay_from app (suc k) n more) (λ n. whole.replay_from app (suc k) None n more) m least
-        (λ s w m small e. replays more (suc k) (Some s) (w ∷ []) m (omega arith) (omega (small, arith)) e) (early.line_of line) refl h
+      (λ s w m small e. replays more (suc k) (Some s) (w ∷ []) m (omega arith) (omega (small, arith)) e) (early.line_of line) refl h
 
   -- ---- the limit of a transcript
 

@@ -24,7 +24,7 @@ mod waiting;
 pub use early::read_early;
 pub use flushed::Flushed;
 pub use flusher::Flusher;
-pub use laws::taken_is_whole;
 pub use forms::built;
+pub use laws::taken_is_whole;
 pub use stage::Stage;
 pub use texts::Texts;

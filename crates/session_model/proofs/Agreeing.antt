@@ -98,7 +98,7 @@ module _ (a b : Answers) where
   site_agree site m k args None p ea eb h =
       ap (at_site site m b args) (eb ∙ sym h.0 ∙ sym ea)
       ∙ ap (λ e. record { outcome = e.outcome; asked = enters site ∷ (e.asked ++ leaves site e.outcome ∷ []); outside = []; sites = e.sites ++ (site, e.outcome) ∷ [] })
-        (k args (front (IsAnsweredAlike a b) (m a args).asked (leaves site (m a args).outcome ∷ []) h.1))
+      (k args (front (IsAnsweredAlike a b) (m a args).asked (leaves site (m a args).outcome ∷ []) h.1))
 
   mutual
     term_agrees : (t : Tree) → Agrees (evaluate t)
@@ -112,13 +112,13 @@ module _ (a b : Answers) where
         then_agree (evaluate t a args) (evaluate t b args) (λ x. plain (required cancels x)) (λ x. plain (required cancels x)) (term_agrees t args) (same_next (λ x. plain (required cancels x))) h
     term_agrees (fold list start accumulator element body) args h =
         then_agree (evaluate list a args) (evaluate list b args) _ _ (term_agrees list args)
-          (λ x. then_agree (evaluate start a args) (evaluate start b args) _ _ (term_agrees start args)
-            (λ y. list_agree (λ c z. evaluate body a (args ++ c ∷ v.Int z ∷ [])) (λ c z. evaluate body b (args ++ c ∷ v.Int z ∷ [])) (λ c z. term_agrees body (args ++ c ∷ v.Int z ∷ [])) y (numbers_of x))) h
+        (λ x. then_agree (evaluate start a args) (evaluate start b args) _ _ (term_agrees start args)
+        (λ y. list_agree (λ c z. evaluate body a (args ++ c ∷ v.Int z ∷ [])) (λ c z. evaluate body b (args ++ c ∷ v.Int z ∷ [])) (λ c z. term_agrees body (args ++ c ∷ v.Int z ∷ [])) y (numbers_of x))) h
     term_agrees (unary op t) args h = then_agree (evaluate t a args) (evaluate t b args) (λ x. plain (unary_result op x)) (λ x. plain (unary_result op x)) (term_agrees t args) (same_next (λ x. plain (unary_result op x))) h
     term_agrees (binary op l r) args h = then_agree (evaluate l a args) (evaluate l b args) (operated op (evaluate r) a args) (operated op (evaluate r) b args) (term_agrees l args) (operated_agree op (evaluate r) (term_agrees r) args) h
     term_agrees (choice condition m n) args h =
         then_agree (evaluate condition a args) (evaluate condition b args) (chosen_by (evaluate m) (evaluate n) a args) (chosen_by (evaluate m) (evaluate n) b args) (term_agrees condition args)
-          (chosen_agree (evaluate m) (evaluate n) (term_agrees m) (term_agrees n) args) h
+        (chosen_agree (evaluate m) (evaluate n) (term_agrees m) (term_agrees n) args) h
     term_agrees (call f ts) args h = terms_agree ts args [] (λ xs. plain (called f xs)) (λ xs. plain (called f xs)) (λ xs h. refl) h
 
     terms_agree : (ts : Trees) (args done : List Value) (next_a next_b : List Value → Evaluation) → ((xs : List Value) → Agree (next_a xs) (next_b xs))
@@ -126,7 +126,7 @@ module _ (a b : Answers) where
     terms_agree no_trees args done next_a next_b k h = k done h
     terms_agree (tree t more) args done next_a next_b k h =
         then_agree (evaluate t a args) (evaluate t b args) (λ x. evaluate_all more a args (done ++ x ∷ []) next_a) (λ x. evaluate_all more b args (done ++ x ∷ []) next_b) (term_agrees t args)
-          (λ x. terms_agree more args (done ++ x ∷ []) next_a next_b k) h
+        (λ x. terms_agree more args (done ++ x ∷ []) next_a next_b k) h
 
 pub equal_answers_give_equal : EqualAnswersGiveEqual
 equal_answers_give_equal t a b args h = term_agrees a b t args h
