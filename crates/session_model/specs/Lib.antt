@@ -21,3 +21,4 @@ pub mod EarlyTranscript
 pub mod Examples
 pub mod Laws
 pub mod AskedLaws
+pub mod Orderly

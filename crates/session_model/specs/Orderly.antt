@@ -1,0 +1,85 @@
+-- What the laws of a session take from an app: readers read earlier expressions, and each isolated site of a reader has
+-- a number of its own. Each well-formed app is so.
+use Rattle.std.specs.Prelude.{◌≡◌, ◌<◌, ⊤, ℕ, suc, ◌+◌, Bool, true, false, List, [], ◌∷◌, ◌++◌, length, Option, Some, None, if◌then◌else◌}
+use Rattle.app_tree.specs.declared.term.Read.{Read}
+use Rattle.app_tree.specs.declared.term.Read.TheVariants as read
+use Rattle.app_tree.specs.Tree.{Tree, constant, group, get, variable, isolate, stop, require, fold, unary, binary, choice, call, Trees, no_trees, tree, Act, set, invoke, update, freeze, perform, branch, branch_else, Acts, no_acts, act, Node, reactive, event, text, plot, observe, on, Shape}
+use Rattle.app_tree.specs.Numbering.{readers, reader, is_expression}
+use Rattle.app_tree.specs.Fresh.{is_expression_at}
+use Rattle.app_tree.specs.Evaluate.{site_count, site_count_all}
+use Rattle.app_tree.specs.Cover.{reads_in, reads_in_all}
+use Rattle.session_model.specs.AskedLaws.{Every}
+
+-- ---- reads
+
+-- every read that stands anywhere in a statement, and in a block
+abbrev mutual
+  pub reads_in_act : Act → List Read
+  reads_in_act (set s t) = reads_in t
+  reads_in_act (invoke s ts) = reads_in_all ts
+  reads_in_act (update s t) = reads_in t
+  reads_in_act (freeze s) = []
+  reads_in_act (perform t) = reads_in t
+  reads_in_act (branch t block) = reads_in t ++ reads_in_acts block
+  reads_in_act (branch_else t block other) = reads_in t ++ (reads_in_acts block ++ reads_in_acts other)
+
+  pub reads_in_acts : Acts → List Read
+  reads_in_acts no_acts = []
+  reads_in_acts (act a more) = reads_in_act a ++ reads_in_acts more
+
+-- every read that stands anywhere in a reader
+abbrev pub reads_in_node : Node → List Read
+reads_in_node (reactive name keys body) = reads_in_all keys ++ reads_in body
+reads_in_node (event name flags e body) = reads_in e ++ reads_in body
+reads_in_node (text name shown) = reads_in_all shown.keys ++ reads_in shown.body
+reads_in_node (plot name shown) = reads_in_all shown.keys ++ reads_in shown.body
+reads_in_node (observe name priority block) = reads_in_acts block
+reads_in_node (on name priority flags e block) = reads_in e ++ reads_in_acts block
+reads_in_node _ = []
+
+-- a read of an expression whose number is below a bound; a read of a source may be any
+abbrev pub ReadsBelow : Shape → ℕ → Read → Type 0
+ReadsBelow app bound (read.Expr m) = (m < bound) × (is_expression_at (reader app m) ≡ true)
+ReadsBelow app bound r = ⊤
+
+-- an expression reads expressions of smaller numbers, and outputs and observers read any
+abbrev pub bound_of : Shape → ℕ → Node → ℕ
+bound_of app n i = if is_expression i then n else length (readers app)
+
+-- ---- isolated sites
+
+-- the sites of a term are numbered in the order of their first words, from n on, and none stands in the last part of a fold
+abbrev mutual
+  pub IsNumbered : ℕ → Tree → Type 0
+  IsNumbered n (constant x) = ⊤
+  IsNumbered n (group t) = IsNumbered n t
+  IsNumbered n (get r) = ⊤
+  IsNumbered n (variable k) = ⊤
+  IsNumbered n (isolate site t) = (site ≡ n) × IsNumbered (suc n) t
+  IsNumbered n (stop t) = IsNumbered n t
+  IsNumbered n (require t cancels) = IsNumbered n t
+  IsNumbered n (fold list start accumulator element body) =
+      IsNumbered n list × (IsNumbered (n + site_count list) start × (site_count body ≡ 0))
+  IsNumbered n (unary op t) = IsNumbered n t
+  IsNumbered n (binary op a b) = IsNumbered n a × IsNumbered (n + site_count a) b
+  IsNumbered n (choice condition a b) =
+      IsNumbered n condition × (IsNumbered (n + site_count condition) a × IsNumbered (n + site_count condition + site_count a) b)
+  IsNumbered n (call f ts) = AreNumbered n ts
+
+  pub AreNumbered : ℕ → Trees → Type 0
+  AreNumbered n no_trees = ⊤
+  AreNumbered n (tree t more) = IsNumbered n t × AreNumbered (n + site_count t) more
+
+-- the keys come before the body, and what is behind an event term is a site itself, with the next number
+abbrev pub IsNumberedNode : Node → Type 0
+IsNumberedNode (reactive name keys body) = AreNumbered 0 keys × IsNumbered (site_count_all keys) body
+IsNumberedNode (event name flags e body) = IsNumbered 0 e × IsNumbered (suc (site_count e)) body
+IsNumberedNode (text name shown) = AreNumbered 0 shown.keys × IsNumbered (site_count_all shown.keys) shown.body
+IsNumberedNode (plot name shown) = AreNumbered 0 shown.keys × IsNumbered (site_count_all shown.keys) shown.body
+IsNumberedNode _ = ⊤
+
+-- ---- the app
+
+pub record IsOrderly (app : Shape) : Type 0 where
+  pub reads : (n : ℕ) (i : Node) → reader app n ≡ Some i → Every (ReadsBelow app (bound_of app n i)) (reads_in_node i)
+  pub sites : (n : ℕ) (i : Node) → reader app n ≡ Some i → IsNumberedNode i
