@@ -21,11 +21,11 @@ back P [] ys h = h
 back P (x ∷ xs) ys h = back P xs ys h.1
 
 module _ (a b : Answers) where
-  abbrev Alike : List Asked → Type 0
+  abbrev pub Alike : List Asked → Type 0
   Alike = Every (IsAnsweredAlike a b)
 
   -- an evaluation by b is that by a, where all that the latter asks is answered alike
-  abbrev Agree : Evaluation → Evaluation → Type 0
+  abbrev pub Agree : Evaluation → Evaluation → Type 0
   Agree by_a by_b = Alike by_a.asked → by_b ≡ by_a
 
   front_of : (e : Evaluation) (o : Outcome) (next : Value → Evaluation) → Alike (then_by e o next).asked → Alike e.asked
@@ -44,7 +44,7 @@ module _ (a b : Answers) where
   go_on e outcome.Running next_a next_b k h = refl
 
   -- one evaluation and then another
-  then_agree : (by_a by_b : Evaluation) (next_a next_b : Value → Evaluation) → Agree by_a by_b → ((x : Value) → Agree (next_a x) (next_b x)) → Agree (then_with by_a next_a) (then_with by_b next_b)
+  pub then_agree : (by_a by_b : Evaluation) (next_a next_b : Value → Evaluation) → Agree by_a by_b → ((x : Value) → Agree (next_a x) (next_b x)) → Agree (then_with by_a next_a) (then_with by_b next_b)
   then_agree by_a by_b next_a next_b same k h =
       ap (λ e. then_with e next_b) (same (front_of by_a by_a.outcome next_a h)) ∙ go_on by_a by_a.outcome next_a next_b k h
 
@@ -52,7 +52,7 @@ module _ (a b : Answers) where
   same_next next x h = refl
 
   -- a meaning that agrees for all values of the variables
-  abbrev Agrees : Meaning → Type 0
+  abbrev pub Agrees : Meaning → Type 0
   Agrees m = (args : List Value) → Agree (m a args) (m b args)
 
   decided_agree : (d : Bool) (m : Meaning) → Agrees m → (args : List Value) (x : Value) → Agree (decided_by d m a args x) (decided_by d m b args x)
@@ -93,7 +93,7 @@ module _ (a b : Answers) where
   list_agree step_a step_b k x None h = refl
 
   -- a site that is answered, or one that is evaluated
-  site_agree : (site : ℕ) (m : Meaning) → Agrees m → (args : List Value) (o p : Option Outcome) → o ≡ a.site site → p ≡ b.site site → Agree (at_site site m a args o) (at_site site m b args p)
+  pub site_agree : (site : ℕ) (m : Meaning) → Agrees m → (args : List Value) (o p : Option Outcome) → o ≡ a.site site → p ≡ b.site site → Agree (at_site site m a args o) (at_site site m b args p)
   site_agree site m k args (Some x) p ea eb h = ap (at_site site m b args) (eb ∙ sym h.0 ∙ sym ea)
   site_agree site m k args None p ea eb h =
       ap (at_site site m b args) (eb ∙ sym h.0 ∙ sym ea)
@@ -101,7 +101,7 @@ module _ (a b : Answers) where
       (k args (front (IsAnsweredAlike a b) (m a args).asked (leaves site (m a args).outcome ∷ []) h.1))
 
   mutual
-    term_agrees : (t : Tree) → Agrees (evaluate t)
+    pub term_agrees : (t : Tree) → Agrees (evaluate t)
     term_agrees (constant x) args h = refl
     term_agrees (group t) args h = term_agrees t args h
     term_agrees (get r) args h = ap (λ o. record { outcome = o; asked = reads r ∷ []; outside = r ∷ []; sites = [] }) (sym h.0)
@@ -121,7 +121,7 @@ module _ (a b : Answers) where
         (chosen_agree (evaluate m) (evaluate n) (term_agrees m) (term_agrees n) args) h
     term_agrees (call f ts) args h = terms_agree ts args [] (λ xs. plain (called f xs)) (λ xs. plain (called f xs)) (λ xs h. refl) h
 
-    terms_agree : (ts : Trees) (args done : List Value) (next_a next_b : List Value → Evaluation) → ((xs : List Value) → Agree (next_a xs) (next_b xs))
+    pub terms_agree : (ts : Trees) (args done : List Value) (next_a next_b : List Value → Evaluation) → ((xs : List Value) → Agree (next_a xs) (next_b xs))
         → Agree (evaluate_all ts a args done next_a) (evaluate_all ts b args done next_b)
     terms_agree no_trees args done next_a next_b k h = k done h
     terms_agree (tree t more) args done next_a next_b k h =

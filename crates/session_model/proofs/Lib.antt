@@ -3,3 +3,11 @@ pub mod EarlyMessages
 pub mod TranscriptLines
 pub mod Expected
 pub mod Agreeing
+pub mod Asking
+pub mod WhatIsAsked
+pub mod Repeating
+pub mod NodesAgree
+pub mod Threading
+pub mod KnownLists
+pub mod States
+pub mod Staying

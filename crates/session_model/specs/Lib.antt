@@ -22,3 +22,5 @@ pub mod Examples
 pub mod Laws
 pub mod AskedLaws
 pub mod Orderly
+pub mod Now
+pub mod Sound

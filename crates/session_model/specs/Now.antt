@@ -1,0 +1,122 @@
+-- The form of a run in which proofs go well: what every reader gives now, whether it is alive or not, and the one
+-- evaluation of a run on it. In each state that a session comes to, this is the run as it is stated in `Run`.
+use Rattle.std.specs.Prelude.{◌≡◌, ⊤, ℕ, zero, suc, ◌+◌, Bool, true, false, List, [], ◌∷◌, ◌++◌, length, Option, Some, None, slice_get, unwrap_or, if◌then◌else◌}
+use Rattle.rx_value.specs.declared.value.Value.TheVariants as v
+use Rattle.rx_value.specs.declared.outcome.Outcome.{Outcome}
+use Rattle.rx_value.specs.declared.outcome.Outcome.TheVariants as o
+use Rattle.app_tree.specs.declared.term.Read.{Read}
+use Rattle.app_tree.specs.declared.term.Read.TheVariants as read
+use Rattle.app_tree.specs.Tree.{Trees, no_trees, tree, Node, reactive, event, text, plot, Shape}
+use Rattle.app_tree.specs.Numbering.{readers, reader}
+use Rattle.app_tree.specs.Evaluate.{Answers, Asked, reads, given, enters, leaves, Evaluation, plain, evaluate_all}
+use Rattle.app_tree.specs.Fresh.{site_outcome, Sites, Known, answer_to, evaluate_reader, known_expressions, sources_of_reads, first_sites}
+use Rattle.session_model.specs.declared.state.ReaderState.{ReaderState}
+use Rattle.session_model.specs.State.{SessionState, reader_state, with_reader, with_sources, has_run, is_alive}
+use Rattle.session_model.specs.AskedLaws.{Every}
+use Rattle.session_model.specs.Reading.{Visited, Manner}
+use Rattle.session_model.specs.Run.{Ran, forgotten, keeping}
+
+-- ---- what is asked
+
+abbrev pub OfRead : (Read → Type 0) → Asked → Type 0
+OfRead P (reads r) = P r
+OfRead P _ = ⊤
+
+-- of each read that is asked
+abbrev pub EveryRead : (Read → Type 0) → List Asked → Type 0
+EveryRead P asked = Every (OfRead P) asked
+
+abbrev pub given_outcome : Option Outcome → Outcome
+given_outcome (Some outcome) = outcome
+given_outcome None = o.Stop
+
+-- the isolated sites that an evaluation meets, with their outcomes, in the order in which it leaves them
+abbrev pub recorded : (ℕ → Option Outcome) → List Asked → List (ℕ × Outcome)
+recorded site [] = []
+recorded site (reads r ∷ more) = recorded site more
+recorded site (given s ∷ more) = (s, given_outcome (site s)) ∷ recorded site more
+recorded site (enters s ∷ more) = recorded site more
+recorded site (leaves s outcome ∷ more) = (s, outcome) ∷ recorded site more
+
+-- ---- what every reader gives now
+
+-- the sites of a reader that keeps what its last run saw
+abbrev pub kept_by : ReaderState → ℕ → Option Outcome
+kept_by r site = Some (unwrap_or (site_outcome site r.isolated) o.Stop)
+
+-- the sites of a reader as it runs: each is evaluated, but for the body of an event that ignores its first run
+abbrev pub open_by : Shape → ℕ → ReaderState → ℕ → Option Outcome
+open_by app n r site = if has_run r then None else first_sites app n site
+
+-- a reader that is alive keeps its sites, and any other would run
+abbrev pub now_by : Shape → ℕ → ReaderState → ℕ → Option Outcome
+now_by app n r site = if is_alive r then kept_by r site else open_by app n r site
+
+abbrev pub open_sites : Shape → SessionState → Sites
+open_sites app state n = open_by app n (reader_state state n)
+
+abbrev pub sites_now : Shape → SessionState → Sites
+sites_now app state n = now_by app n (reader_state state n)
+
+-- what each expression gives now, and what it reaches
+abbrev pub known_now : Shape → SessionState → List Known
+known_now app state = known_expressions app state.values (sites_now app state)
+
+-- what reader n gives now
+abbrev pub evaluation_now : Shape → SessionState → ℕ → Evaluation
+evaluation_now app state n = evaluate_reader app state.values (sites_now app state) (known_now app state) n
+
+-- what reader n gives where it is run now
+abbrev pub trace : Shape → SessionState → ℕ → Evaluation
+trace app state n = evaluate_reader app state.values (open_sites app state) (known_now app state) n
+
+-- ---- a run by its trace
+
+abbrev pub then_walked : Visited → Visited → Visited
+then_walked first next = record { state = next.state; bodies = first.bodies + next.bodies }
+
+abbrev pub stayed : SessionState → Visited
+stayed state = record { state = state; bodies = 0 }
+
+-- what one thing that is asked does to the session
+abbrev pub walked_by : Manner → (ℕ → Option Outcome) → Asked → SessionState → Visited
+walked_by manner site (reads (read.Expr m)) state = manner.visit m state
+walked_by manner site (reads r) state = stayed state
+walked_by manner site (given s) state = stayed (manner.keep s (given_outcome (site s)) state)
+walked_by manner site (enters s) state = stayed state
+walked_by manner site (leaves s outcome) state = stayed (manner.keep s outcome state)
+
+-- each expression that is read is visited, and each site that is left is kept
+abbrev pub walked : Manner → (ℕ → Option Outcome) → List Asked → SessionState → Visited
+walked manner site [] state = stayed state
+walked manner site (asked ∷ more) state = then_walked (walked_by manner site asked state) (walked manner site more (walked_by manner site asked state).state)
+
+abbrev pub one_if_value : Outcome → ℕ
+one_if_value (o.Val x) = 1
+one_if_value _ = 0
+
+-- a body counts where there are no keys, or all of them came to values
+abbrev pub keys_count : Trees → Answers → ℕ
+keys_count no_trees answers = 1
+keys_count (tree key more) answers = one_if_value (evaluate_all (tree key more) answers [] [] (λ xs. plain (o.Val v.Null))).outcome
+
+abbrev pub node_count : Option Node → Answers → ℕ
+node_count (Some (reactive name keys body)) answers = keys_count keys answers
+node_count (Some (event name flags e body)) answers = 1
+node_count (Some (text name shown)) answers = keys_count shown.keys answers
+node_count (Some (plot name shown)) answers = keys_count shown.keys answers
+node_count _ answers = 0
+
+abbrev pub open_answers : Shape → SessionState → ℕ → Answers
+open_answers app state n = record { read = answer_to app state.values (known_now app state); site = open_sites app state n }
+
+-- its sites are forgotten, what the trace asks is walked through, and then it depends on what the trace reached
+abbrev pub run_by_trace : Shape → (ℕ → SessionState → Visited) → ℕ → SessionState → Ran
+run_by_trace app visit n state = ran_by (walked (keeping visit n) (open_sites app state n) (trace app state n).asked (forgotten n state))
+  where
+    ran_by : Visited → Ran
+    ran_by after = record {
+      state = with_sources n (sources_of_reads app (known_now app state) [] (trace app state n).outside) after.state;
+      outcome = (trace app state n).outcome;
+      bodies = after.bodies + node_count (reader app n) (open_answers app state n);
+    }
