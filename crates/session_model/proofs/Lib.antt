@@ -11,3 +11,7 @@ pub mod Threading
 pub mod KnownLists
 pub mod States
 pub mod Staying
+pub mod Kept
+pub mod Freshness
+pub mod Covering
+pub mod FirstRun

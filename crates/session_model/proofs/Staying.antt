@@ -161,13 +161,13 @@ module _ (app : Shape) where
       abbrev pub runs : Answers
       runs = open_answers app M n
 
-      found : Every (IsFound (recorded runs.site (evaluate_node (reader app n) runs).asked)) (recorded runs.site (evaluate_node (reader app n) runs).asked)
+      pub found : Every (IsFound (recorded runs.site (evaluate_node (reader app n) runs).asked)) (recorded runs.site (evaluate_node (reader app n) runs).asked)
       found = subst (λ (x : Option Node). Every (IsFound (recorded runs.site (evaluate_node x runs).asked)) (recorded runs.site (evaluate_node x runs).asked)) (sym is) (node_meets runs i (orderly.sites n i is)).found
 
       abbrev kept_answers : (Read → Outcome) → Answers
       kept_answers tell = record { read = tell; site = kept_by r }
 
-      is_kept : (tell : Read → Outcome) (P : Read → Type 0) (e : ℕ × Outcome) → IsFound (recorded runs.site (trace app M n).asked) e → IsKept runs (kept_answers tell) P e
+      pub is_kept : (tell : Read → Outcome) (P : Read → Type 0) (e : ℕ × Outcome) → IsFound (recorded runs.site (trace app M n).asked) e → IsKept runs (kept_answers tell) P e
       is_kept tell P e h = ap (λ l. Some (unwrap_or (site_outcome e.0 l) o.Stop)) kept ∙ ap (λ x. Some (unwrap_or x o.Stop)) h
 
       -- evaluated again with them, where what was read is answered alike
