@@ -15,3 +15,5 @@ pub mod Kept
 pub mod Freshness
 pub mod Covering
 pub mod FirstRun
+pub mod Moving
+pub mod Walking

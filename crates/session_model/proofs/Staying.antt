@@ -115,12 +115,12 @@ module _ (app : Shape) where
       ∙ ap (λ l. evaluate_node (reader app n) (record { read = answer_to app M.values l; site = open_sites app N n })) p.known
       ∙ ap (λ (s : ℕ → Option Outcome). evaluate_node (reader app n) (record { read = answer_to app M.values (known_now app M); site = s })) (open_same app n (reader_state M n) (reader_state N n) h)
 
+  -- each expression that is alive stays alive
+  abbrev pub KeepsAlive : SessionState → SessionState → Type 0
+  KeepsAlive M N = (m : ℕ) → is_expression_at (reader app m) ≡ true → is_alive (reader_state M m) ≡ true → is_alive (reader_state N m) ≡ true
+
   module _ (orderly : IsOrderly app) where
     -- ---- soundness where a reader stays
-
-    -- each expression that is alive stays alive
-    abbrev pub KeepsAlive : SessionState → SessionState → Type 0
-    KeepsAlive M N = (m : ℕ) → is_expression_at (reader app m) ≡ true → is_alive (reader_state M m) ≡ true → is_alive (reader_state N m) ≡ true
 
     keeps_read : (M N : SessionState) → KeepsAlive M N → (bound : ℕ) (r : Read) → ReadsBelow app bound r → IsAliveRead M r → IsAliveRead N r
     keeps_read M N k bound (read.Expr m) h a = k m h.1 a
