@@ -17,3 +17,5 @@ pub mod Covering
 pub mod FirstRun
 pub mod Moving
 pub mod Walking
+pub mod CountedTerms
+pub mod NodesThrough
