@@ -19,3 +19,4 @@ pub mod Moving
 pub mod Walking
 pub mod CountedTerms
 pub mod NodesThrough
+pub mod Running
