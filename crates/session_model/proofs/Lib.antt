@@ -20,3 +20,5 @@ pub mod Walking
 pub mod CountedTerms
 pub mod NodesThrough
 pub mod Running
+pub mod Reaching
+pub mod CoveredReads
