@@ -22,3 +22,5 @@ pub mod NodesThrough
 pub mod Running
 pub mod Reaching
 pub mod CoveredReads
+pub mod Quiet
+pub mod Changing
