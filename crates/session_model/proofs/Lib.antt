@@ -3,3 +3,4 @@ pub mod EarlyMessages
 pub mod TranscriptLines
 pub mod Expected
 pub mod Agreeing
+pub mod WellOrdered

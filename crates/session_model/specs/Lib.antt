@@ -22,3 +22,4 @@ pub mod Examples
 pub mod Laws
 pub mod AskedLaws
 pub mod Orderly
+pub mod AppLaws

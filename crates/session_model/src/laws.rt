@@ -1,5 +1,6 @@
 //! What is expected of a session, whatever its app. Each function does nothing: it is there for its contract.
 
+ghost use Rattle.session_model.specs.AppLaws.{WellFormedIsOrderly};
 ghost use Rattle.session_model.specs.AskedLaws.{EqualAnswersGiveEqual};
 ghost use Rattle.session_model.specs.Laws.{EqualValueChangesNothing, DoneIsSettled, IsWithinBudget, AnswersGoOn, OverStays, OverIsSilent};
 
@@ -29,4 +30,11 @@ pub fn journal_laws()
 #[tactic(auto, using(crate::proofs::Agreeing::equal_answers_give_equal))]
 pub fn evaluation_laws()
     ensures { EqualAnswersGiveEqual }
+{}
+
+/// In each well-formed app an expression reads earlier ones alone, and each isolated site of a reader has a number
+/// of its own.
+#[tactic(auto, using(crate::proofs::WellOrdered::well_formed_is_orderly))]
+pub fn app_laws()
+    ensures { WellFormedIsOrderly }
 {}
