@@ -4,3 +4,4 @@ pub mod TranscriptLines
 pub mod Expected
 pub mod Agreeing
 pub mod WellOrdered
+pub mod Apart

@@ -23,3 +23,4 @@ pub mod Laws
 pub mod AskedLaws
 pub mod Orderly
 pub mod AppLaws
+pub mod Apart
