@@ -24,3 +24,5 @@ pub mod Reaching
 pub mod CoveredReads
 pub mod Quiet
 pub mod Changing
+pub mod WellOrdered
+pub mod Apart

@@ -24,3 +24,5 @@ pub mod AskedLaws
 pub mod Orderly
 pub mod Now
 pub mod Sound
+pub mod AppLaws
+pub mod Apart

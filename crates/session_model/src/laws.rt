@@ -1,5 +1,7 @@
 //! What is expected of a session, whatever its app. Each function does nothing: it is there for its contract.
 
+ghost use Rattle.session_model.specs.Apart.{LinesInterleave, TranscriptsInterleave};
+ghost use Rattle.session_model.specs.AppLaws.{WellFormedIsOrderly};
 ghost use Rattle.session_model.specs.AskedLaws.{EqualAnswersGiveEqual};
 ghost use Rattle.session_model.specs.Laws.{EqualValueChangesNothing, DoneIsSettled, IsWithinBudget, AnswersGoOn, OverStays, OverIsSilent};
 
@@ -29,4 +31,18 @@ pub fn journal_laws()
 #[tactic(auto, using(crate::proofs::Agreeing::equal_answers_give_equal))]
 pub fn evaluation_laws()
     ensures { EqualAnswersGiveEqual }
+{}
+
+/// In each well-formed app an expression reads earlier ones alone, and each isolated site of a reader has a number
+/// of its own.
+#[tactic(auto, using(crate::proofs::WellOrdered::well_formed_is_orderly))]
+pub fn app_laws()
+    ensures { WellFormedIsOrderly }
+{}
+
+/// The output of a transcript is an interleaving of what the lines of each session write alone.
+#[tactic(auto, using(crate::proofs::Apart::lines_interleave))]
+pub fn transcript_laws()
+    ensures lines { LinesInterleave }
+    ensures transcripts { TranscriptsInterleave }
 {}

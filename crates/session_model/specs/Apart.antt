@@ -1,0 +1,56 @@
+-- The sessions of a transcript stand apart: its output is an interleaving of what the lines of each session write alone.
+use Rattle.std.specs.Prelude.{◌≡◌, ℕ, Bool, false, List, [], ◌∷◌, ◌++◌, filter, Option, Some, None, bytes_eq}
+use Rattle.app_tree.specs.Tree.{Shape}
+use Rattle.session_model.specs.Lines.{lines_of}
+use Rattle.session_model.specs.Transcript.{Line, recv, ends, closes, line_of, done, Replayed, replay_from, replayed}
+
+-- ---- a session's lines
+
+-- whether what a line says is for the session of this label
+abbrev pub is_said_to : List ℕ → Option Line → Bool
+is_said_to label None = false
+is_said_to label (Some (recv other text)) = bytes_eq label other
+is_said_to label (Some (ends other t)) = bytes_eq label other
+is_said_to label (Some (closes other)) = bytes_eq label other
+
+-- those of these lines that are for the session of this label
+abbrev pub lines_for : Shape → List ℕ → List (List ℕ) → List (List ℕ)
+lines_for app label lines = filter (λ line. is_said_to label (line_of app.items line)) lines
+
+-- lines replayed by themselves
+abbrev pub alone : Shape → List (List ℕ) → Replayed
+alone app lines = replay_from app 1 None [] lines
+
+-- ---- pieces of an output
+
+-- some of its bytes, and the label of the session that they are for
+pub record Piece : Type 0 where
+  pub label : List ℕ
+  pub bytes : List ℕ
+
+-- one piece behind the other
+abbrev pub joined : List Piece → List ℕ
+joined [] = []
+joined (piece ∷ more) = piece.bytes ++ joined more
+
+-- those for one session
+abbrev pub pieces_for : List ℕ → List Piece → List Piece
+pieces_for label pieces = filter (λ piece. bytes_eq label piece.label) pieces
+
+-- ---- the law
+
+-- the output is made of pieces; each session's lines, replayed without those of the others, are taken too, and their
+-- output is made of the pieces for that session
+pub record IsInterleaved (app : Shape) (lines : List (List ℕ)) (output : List ℕ) : Type 0 where
+  pub pieces : List Piece
+  pub whole : output ≡ joined pieces
+  pub taken : (label : List ℕ) → (alone app (lines_for app label lines)).end ≡ done
+  pub parts : (label : List ℕ) → (alone app (lines_for app label lines)).output ≡ joined (pieces_for label pieces)
+
+-- so it is with lines that are all taken
+abbrev pub LinesInterleave : Type 0
+LinesInterleave = (app : Shape) (lines : List (List ℕ)) → (alone app lines).end ≡ done → IsInterleaved app lines (alone app lines).output
+
+-- and with each transcript whose lines are all taken: none of them goes past the limit, since such a line is refused
+abbrev pub TranscriptsInterleave : Type 0
+TranscriptsInterleave = (app : Shape) (bytes : List ℕ) → (replayed app bytes).end ≡ done → IsInterleaved app (lines_of bytes) (replayed app bytes).output
