@@ -16,12 +16,12 @@ use Rattle.app_tree.specs.Cover.{reads_in, reads_in_all}
 use Rattle.app_tree.specs.DraftTree as draft
 use Rattle.app_tree.specs.DraftTree.{DraftTree, DraftTrees, DraftDeed, DraftAct, DraftActs, WrittenBody, WrittenOutput, WrittenForm, WrittenItem, DraftShape}
 use Rattle.app_tree.specs.Declarations.{Declared, is_input_sort, is_value_sort, is_task_sort, is_named_sort, is_reader_sort, declaration, declarations, declared_by, sort_of_form, count_of, number_at}
-use Rattle.app_tree.specs.Resolve.{sought_by, inner_scope, read_to, resolved_read, draft_site_count, draft_site_count_all, resolved_tree, resolved_trees, act_site_count, acts_site_count, resolved_deed, resolved_act, resolved_acts, resolved_form, resolved_item, resolved}
+use Rattle.app_tree.specs.Resolve.{deed_site_count, sought_by, inner_scope, read_to, resolved_read, draft_site_count, draft_site_count_all, resolved_tree, resolved_trees, act_site_count, acts_site_count, resolved_deed, resolved_act, resolved_acts, resolved_form, resolved_item, resolved}
 use Rattle.app_tree.specs.Faults.{refused, name_refused, where_fails, is_none, is_at_or_behind, is_forward, unknown_name, in_task_fault, forward_read, isolate_in_fold, fold_too_deep, same_variables, argument_count_fault, tree_count, Spot, in_last_part, Holder, in_expression, elsewhere, read_faults, term_faults, terms_faults, deed_faults, act_faults, acts_faults, writes_faults, body_faults, spot_in, form_faults, item_too_many, second_item, item_faults, items_faults, faults}
 use Rattle.app_tree.specs.WellFormed.{IsWellFormed}
 use Rattle.app_tree.proofs.Numbers.{finds}
 use Rattle.session_model.specs.AskedLaws.{Every}
-use Rattle.session_model.specs.Orderly.{reads_in_act, reads_in_acts, reads_in_node, ReadsBelow, bound_of, IsNumbered, AreNumbered, IsNumberedNode, IsOrderly}
+use Rattle.session_model.specs.Orderly.{act_sites, acts_sites, IsNumberedAct, AreNumberedActs, reads_in_act, reads_in_acts, reads_in_node, ReadsBelow, bound_of, IsNumbered, AreNumbered, IsNumberedNode, IsOrderly}
 
 -- ---- no refusals
 
@@ -178,6 +178,58 @@ keyed_numbered spot keys body none = (
       (numbered spot [] (draft_site_count_all keys) body.term (body_passes spot body (nothing_right (terms_faults spot keys) (body_faults spot body) none))),
 )
 
+-- ---- statements
+
+deed_sites_kept : (table : List Declared) (n : ℕ) (d : DraftDeed) → act_sites (resolved_deed table n d) ≡ deed_site_count d
+deed_sites_kept table n (draft.set name t) = sites_kept table [] n t
+deed_sites_kept table n (draft.invoke name ts) = all_sites_kept table [] n ts
+deed_sites_kept table n (draft.update name t) = sites_kept table [] n t
+deed_sites_kept table n (draft.freeze name) = refl
+
+mutual
+  act_sites_kept : (table : List Declared) (n : ℕ) (a : DraftAct) → act_sites (resolved_act table n a) ≡ act_site_count a
+  act_sites_kept table n (draft.write w) = deed_sites_kept table n w.deed
+  act_sites_kept table n (draft.perform t) = sites_kept table [] n t
+  act_sites_kept table n (draft.branch t block) = (λ i. sites_kept table [] n t i + acts_sites_kept table (n + draft_site_count t) block i)
+  act_sites_kept table n (draft.branch_else t block other) =
+      (λ i. sites_kept table [] n t i + (acts_sites_kept table (n + draft_site_count t) block i + acts_sites_kept table (n + draft_site_count t + acts_site_count block) other i))
+
+  acts_sites_kept : (table : List Declared) (n : ℕ) (block : DraftActs) → acts_sites (resolved_acts table n block) ≡ acts_site_count block
+  acts_sites_kept table n draft.no_acts = refl
+  acts_sites_kept table n (draft.act a more) = (λ i. act_sites_kept table n a i + acts_sites_kept table (n + act_site_count a) more i)
+
+deed_numbered : (spot : Spot) (n : ℕ) (d : DraftDeed) → deed_faults spot d ≡ [] → IsNumberedAct n (resolved_deed spot.table n d)
+deed_numbered spot n (draft.set name t) none = numbered spot [] n t (nothing_right (unknown_name spot.table is_value_sort name) (term_faults spot t) none)
+deed_numbered spot n (draft.invoke name ts) none =
+    all_numbered spot [] n ts (nothing_right (unknown_name spot.table is_task_sort name ++ argument_count_fault spot.table name (tree_count ts)) (terms_faults spot ts) none)
+deed_numbered spot n (draft.update name t) none = numbered spot [] n t (nothing_right (unknown_name spot.table is_input_sort name) (term_faults spot t) none)
+deed_numbered spot n (draft.freeze name) none = tt
+
+mutual
+  act_numbered : (spot : Spot) (n : ℕ) (a : DraftAct) → act_faults spot a ≡ [] → IsNumberedAct n (resolved_act spot.table n a)
+  act_numbered spot n (draft.write w) none = deed_numbered spot n w.deed none
+  act_numbered spot n (draft.perform t) none = numbered spot [] n t none
+  act_numbered spot n (draft.branch t block) none = (
+    numbered spot [] n t (nothing_left (term_faults spot t) (acts_faults spot block) none),
+    rw (sites_kept spot.table [] n t) (acts_numbered spot (n + draft_site_count t) block (nothing_right (term_faults spot t) (acts_faults spot block) none)),
+  )
+  act_numbered spot n (draft.branch_else t block other) none =
+      let blocks = nothing_right (term_faults spot t) (acts_faults spot block ++ acts_faults spot other) none in (
+        numbered spot [] n t (nothing_left (term_faults spot t) (acts_faults spot block ++ acts_faults spot other) none),
+        (
+          rw (sites_kept spot.table [] n t) (acts_numbered spot (n + draft_site_count t) block (nothing_left (acts_faults spot block) (acts_faults spot other) blocks)),
+          rw (sites_kept spot.table [] n t, acts_sites_kept spot.table (n + draft_site_count t) block)
+              (acts_numbered spot (n + draft_site_count t + acts_site_count block) other (nothing_right (acts_faults spot block) (acts_faults spot other) blocks)),
+        ),
+      )
+
+  acts_numbered : (spot : Spot) (n : ℕ) (block : DraftActs) → acts_faults spot block ≡ [] → AreNumberedActs n (resolved_acts spot.table n block)
+  acts_numbered spot n draft.no_acts none = tt
+  acts_numbered spot n (draft.act a more) none = (
+    act_numbered spot n a (nothing_left (act_faults spot a) (acts_faults spot more) none),
+    rw (act_sites_kept spot.table n a) (acts_numbered spot (n + act_site_count a) more (nothing_right (act_faults spot a) (acts_faults spot more) none)),
+  )
+
 form_numbered : (table : List Declared) (k : ℕ) (name : List ℕ) (f : WrittenForm) → form_faults table k f ≡ [] → IsNumberedNode (resolved_form table name f)
 form_numbered table k name (draft.input start) none = tt
 form_numbered table k name (draft.value start) none = tt
@@ -191,8 +243,12 @@ form_numbered table k name (draft.event flags e body) none =
     )
 form_numbered table k name (draft.text shown) none = keyed_numbered (spot_in table k elsewhere []) shown.keys shown.body none
 form_numbered table k name (draft.plot shown) none = keyed_numbered (spot_in table k elsewhere []) shown.keys shown.body none
-form_numbered table k name (draft.observe priority block) none = tt
-form_numbered table k name (draft.on priority flags e block) none = tt
+form_numbered table k name (draft.observe priority block) none = acts_numbered (spot_in table k elsewhere []) 0 block none
+form_numbered table k name (draft.on priority flags e block) none =
+    let spot = spot_in table k elsewhere [] in (
+      numbered spot [] 0 e (nothing_left (term_faults spot e) (acts_faults spot block) none),
+      rw (sites_kept table [] 0 e) (acts_numbered spot (suc (draft_site_count e)) block (nothing_right (term_faults spot e) (acts_faults spot block) none)),
+    )
 
 -- ---- the readers of a draft
 

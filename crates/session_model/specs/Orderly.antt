@@ -70,12 +70,45 @@ abbrev mutual
   AreNumbered n no_trees = ⊤
   AreNumbered n (tree t more) = IsNumbered n t × AreNumbered (n + site_count t) more
 
+-- how many sites stand in a statement, and in a block
+abbrev mutual
+  pub act_sites : Act → ℕ
+  act_sites (set s t) = site_count t
+  act_sites (invoke s ts) = site_count_all ts
+  act_sites (update s t) = site_count t
+  act_sites (freeze s) = 0
+  act_sites (perform t) = site_count t
+  act_sites (branch t block) = site_count t + acts_sites block
+  act_sites (branch_else t block other) = site_count t + (acts_sites block + acts_sites other)
+
+  pub acts_sites : Acts → ℕ
+  acts_sites no_acts = 0
+  acts_sites (act a more) = act_sites a + acts_sites more
+
+-- the sites of a statement, and of a block, are numbered in the order of the text
+abbrev mutual
+  pub IsNumberedAct : ℕ → Act → Type 0
+  IsNumberedAct n (set s t) = IsNumbered n t
+  IsNumberedAct n (invoke s ts) = AreNumbered n ts
+  IsNumberedAct n (update s t) = IsNumbered n t
+  IsNumberedAct n (freeze s) = ⊤
+  IsNumberedAct n (perform t) = IsNumbered n t
+  IsNumberedAct n (branch t block) = IsNumbered n t × AreNumberedActs (n + site_count t) block
+  IsNumberedAct n (branch_else t block other) =
+      IsNumbered n t × (AreNumberedActs (n + site_count t) block × AreNumberedActs (n + site_count t + acts_sites block) other)
+
+  pub AreNumberedActs : ℕ → Acts → Type 0
+  AreNumberedActs n no_acts = ⊤
+  AreNumberedActs n (act a more) = IsNumberedAct n a × AreNumberedActs (n + act_sites a) more
+
 -- the keys come before the body, and what is behind an event term is a site itself, with the next number
 abbrev pub IsNumberedNode : Node → Type 0
 IsNumberedNode (reactive name keys body) = AreNumbered 0 keys × IsNumbered (site_count_all keys) body
 IsNumberedNode (event name flags e body) = IsNumbered 0 e × IsNumbered (suc (site_count e)) body
 IsNumberedNode (text name shown) = AreNumbered 0 shown.keys × IsNumbered (site_count_all shown.keys) shown.body
 IsNumberedNode (plot name shown) = AreNumbered 0 shown.keys × IsNumbered (site_count_all shown.keys) shown.body
+IsNumberedNode (observe name priority block) = AreNumberedActs 0 block
+IsNumberedNode (on name priority flags e block) = IsNumbered 0 e × AreNumberedActs (suc (site_count e)) block
 IsNumberedNode _ = ⊤
 
 -- ---- the app
