@@ -26,3 +26,4 @@ pub mod Quiet
 pub mod Changing
 pub mod WellOrdered
 pub mod Apart
+pub mod Right

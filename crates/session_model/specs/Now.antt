@@ -6,14 +6,14 @@ use Rattle.rx_value.specs.declared.outcome.Outcome.{Outcome}
 use Rattle.rx_value.specs.declared.outcome.Outcome.TheVariants as o
 use Rattle.app_tree.specs.declared.term.Read.{Read}
 use Rattle.app_tree.specs.declared.term.Read.TheVariants as read
-use Rattle.app_tree.specs.Tree.{Trees, no_trees, tree, Node, reactive, event, text, plot, Shape}
+use Rattle.app_tree.specs.Tree.{Tree, Trees, no_trees, tree, Node, reactive, event, text, plot, Shape}
 use Rattle.app_tree.specs.Numbering.{readers, reader}
-use Rattle.app_tree.specs.Evaluate.{Answers, Asked, reads, given, enters, leaves, Evaluation, plain, evaluate_all}
+use Rattle.app_tree.specs.Evaluate.{Answers, Asked, reads, given, enters, leaves, Evaluation, plain, evaluate, evaluate_all}
 use Rattle.app_tree.specs.Fresh.{site_outcome, Sites, Known, answer_to, evaluate_reader, known_expressions, sources_of_reads, first_sites}
 use Rattle.session_model.specs.declared.state.ReaderState.{ReaderState}
 use Rattle.session_model.specs.State.{SessionState, reader_state, with_reader, with_sources, has_run, is_alive}
 use Rattle.session_model.specs.AskedLaws.{Every}
-use Rattle.session_model.specs.Reading.{Visited, Manner}
+use Rattle.session_model.specs.Reading.{Reached, Visited, Manner}
 use Rattle.session_model.specs.Run.{Ran, forgotten, keeping}
 
 -- ---- what is asked
@@ -119,4 +119,22 @@ run_by_trace app visit n state = ran_by (walked (keeping visit n) (open_sites ap
       state = with_sources n (sources_of_reads app (known_now app state) [] (trace app state n).outside) after.state;
       outcome = (trace app state n).outcome;
       bodies = after.bodies + node_count (reader app n) (open_answers app state n);
+    }
+
+-- ---- a term of an observer by its evaluation
+
+-- what its reads are answered; each of its sites is evaluated
+abbrev pub term_answers : Shape → SessionState → Answers
+term_answers app state = record { read = answer_to app state.values (known_now app state); site = λ site. None }
+
+-- what it asks is walked through, and none of its sites is kept
+abbrev pub read_by_trace : Shape → Manner → Tree → SessionState → Reached
+read_by_trace app manner t state = read_by (evaluate t (term_answers app state) [])
+  where
+    read_by : Evaluation → Reached
+    read_by e = record {
+      state = (walked manner (λ site. None) e.asked state).state;
+      bodies = (walked manner (λ site. None) e.asked state).bodies;
+      outside = e.outside;
+      outcome = e.outcome;
     }

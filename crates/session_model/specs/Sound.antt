@@ -27,3 +27,12 @@ pub record IsSoundAt (app : Shape) (state : SessionState) (n : ℕ) : Type 0 whe
 pub record IsSound (app : Shape) (state : SessionState) : Type 0 where
   pub size : length state.readers ≡ length (readers app)
   pub at : (n : ℕ) (i : Node) → reader app n ≡ Some i → is_evaluated i ≡ true → is_alive (reader_state state n) ≡ true → IsSoundAt app state n
+
+-- each output that is alive has last come to what it gives now
+pub record IsTold (app : Shape) (state : SessionState) : Type 0 where
+  pub at : (n : ℕ) (i : Node) → reader app n ≡ Some i → is_output i ≡ true → is_alive (reader_state state n) ≡ true → (reader_state state n).last ≡ Some (evaluation_now app state n).outcome
+
+-- what a session keeps is right
+pub record IsRight (app : Shape) (state : SessionState) : Type 0 where
+  pub sound : IsSound app state
+  pub told : IsTold app state

@@ -1,0 +1,205 @@
+-- What keeps right what a session keeps: writes, visits, changes and the runs of outputs.
+use Rattle.std.proofs.Common.{◌≡◌, ◌≢◌, inl, inr, ◌⊎◌, ◌≤◌, ◌<◌, ℕ, zero, suc, ◌+◌, Bool, true, false, List, [], ◌∷◌, length, Option, Some, None, refl, sym, ap, ◌∙◌, subst, arith}
+use Rattle.std.proofs.lemmas.Bool.{false≢true}
+use Rattle.std.proofs.lemmas.Bool.Decides.{eqb_tells}
+use Rattle.std.specs.Prelude.{⊤, ◌==◌, ◌||◌, slice_get, slice_set, unwrap_or, if◌then◌else◌}
+use Rattle.rx_value.specs.declared.outcome.Outcome.{Outcome}
+use Rattle.rx_value.specs.declared.source.SourceValue.{SourceValue}
+use Rattle.rx_value.specs.Value.{source_eq}
+use Rattle.app_tree.specs.Tree.{Node, input, value, task, reactive, event, text, plot, observe, on, Shape}
+use Rattle.app_tree.specs.Numbering.{readers, reader, is_expression, is_output, is_observer}
+use Rattle.app_tree.specs.Current.{value_at}
+use Rattle.app_tree.specs.Evaluate.{Evaluation}
+use Rattle.app_tree.specs.Cover.{is_covered}
+use Rattle.app_tree.specs.Fresh.{is_expression_at}
+use Rattle.task_board.specs.Board.{TaskBoard}
+use Rattle.session_model.specs.declared.state.ReaderState.{ReaderState}
+use Rattle.session_model.specs.State.{SessionState, first_reader, first_readers, first_state, reader_state, with_reader, is_alive}
+use Rattle.session_model.specs.Change.{marked, changed_to, change, thawed, thaw_from, thaw}
+use Rattle.session_model.specs.Run.{Ran, run_reader}
+use Rattle.session_model.specs.Flush.{with_last, output_made}
+use Rattle.session_model.specs.Tasks.{with_board}
+use Rattle.session_model.specs.Orderly.{IsOrderly}
+use Rattle.session_model.specs.Now.{now_by, sites_now, known_now, evaluation_now}
+use Rattle.session_model.specs.Sound.{is_evaluated, IsSoundAt, IsSound, IsTold, IsRight}
+use Rattle.session_model.proofs.KnownLists.{get_in}
+use Rattle.session_model.proofs.States.{state_here, state_there, state_size}
+use Rattle.session_model.proofs.Staying.{Alike, alike_refl, alike_eq, alike_alive, alike_now, Same, same_refl, same_trans, same_readers, evaluation_same, KeepsAlive, sound_stays}
+use Rattle.session_model.proofs.Moving.{not_both, Steps, steps_keep, Visits, Good}
+use Rattle.session_model.proofs.Changing.{marked_at, unmarked, Unmarked, unchanged, changed_sound}
+use Rattle.session_model.proofs.Running.{no_expression, Leaves, visits_good, output_leaves}
+
+-- no expression and no output is an observer
+pub observer_alone : (i : Node) → is_observer i ≡ true → is_evaluated i ≡ false
+observer_alone (input name start) h = refl
+observer_alone (value name start) h = refl
+observer_alone (task name parameters body) h = refl
+observer_alone (reactive name keys body) h = cc
+observer_alone (event name flags e body) h = cc
+observer_alone (text name shown) h = cc
+observer_alone (plot name shown) h = cc
+observer_alone (observe name priority block) h = refl
+observer_alone (on name priority flags e block) h = refl
+
+same_node : {i j : Node} {o : Option Node} → o ≡ Some i → o ≡ Some j → i ≡ j
+same_node p q = cc
+
+-- what is written is there, or nothing was written
+set_or_not : {A : Type 0} (xs : List A) (n : ℕ) (x : A) → (slice_get (slice_set xs n x) n ≡ Some x) ⊎ (slice_set xs n x ≡ xs)
+set_or_not [] n x = inr refl
+set_or_not (y ∷ xs) zero x = inl refl
+set_or_not (y ∷ xs) (suc n) x = elim (set_or_not xs n x) [ inl p ↦ inl p | inr p ↦ inr (ap (λ l. y ∷ l) p) ]
+
+module _ (app : Shape) (orderly : IsOrderly app) (covered : (n : ℕ) → is_covered app n ≡ true) where
+  -- ---- where each reader keeps what it has
+  module _ (M N : SessionState) (right : IsRight app M) (values : N.values ≡ M.values) (size : length N.readers ≡ length M.readers)
+      (alike : (m : ℕ) (i : Node) → reader app m ≡ Some i → is_evaluated i ≡ true → Alike (reader_state M m) (reader_state N m))
+      (last : (m : ℕ) (i : Node) → reader app m ≡ Some i → is_output i ≡ true → (reader_state N m).last ≡ (reader_state M m).last) where
+    expression_alike : (m : ℕ) → is_expression_at (reader app m) ≡ true → Alike (reader_state M m) (reader_state N m)
+    expression_alike m h = by (reader app m) refl h
+      where
+        by : (o : Option Node) → reader app m ≡ o → is_expression_at o ≡ true → Alike (reader_state M m) (reader_state N m)
+        by None q x = cc
+        by (Some i) q x = alike m i q (ap (λ b. b || is_output i) x)
+
+    pub alike_same : Same app M N
+    alike_same = same_readers app M N values expression_alike
+
+    pub right_alike : IsRight app N
+    right_alike = record {
+      sound = sound_stays app orderly M N right.sound alike_same size (λ m h a. alike_alive (expression_alike m h) ∙ a) (λ m i is e a. alike m i is e);
+      told = record { at = λ m i is o a.
+          let same : Alike (reader_state M m) (reader_state N m) = alike m i is (ap (λ b. b || is_output i) (no_expression i o) ∙ o) in
+          last m i is o ∙ right.told.at m i is o (sym (alike_alive same) ∙ a) ∙ ap (λ (e : Evaluation). Some e.outcome) (sym (evaluation_same app alike_same m (alike_now app m same))) };
+    }
+
+  -- ---- what is kept for an observer
+  pub right_observer : (M : SessionState) (n : ℕ) (r : ReaderState) → ((i : Node) → reader app n ≡ Some i → is_evaluated i ≡ false) → IsRight app M → IsRight app (with_reader n r M)
+  right_observer M n r none right = right_alike M (with_reader n r M) right refl (state_size M n r)
+      (λ m i is e. alike_eq (state_there M n m r (λ q. not_both e (none i (subst (λ z. reader app z ≡ Some i) q is)))))
+      (λ m i is o. ap (λ (x : ReaderState). x.last) (state_there M n m r (λ q. not_both (ap (λ b. b || is_output i) (no_expression i o) ∙ o) (none i (subst (λ z. reader app z ≡ Some i) q is)))))
+
+  -- ---- a write that leaves what was reached, the sites and the last outcome
+  write_there : (M : SessionState) (n m : ℕ) (r : ReaderState) → Alike (reader_state M n) r → r.last ≡ (reader_state M n).last
+      → Alike (reader_state M m) (reader_state (with_reader n r M) m) × ((reader_state (with_reader n r M) m).last ≡ (reader_state M m).last)
+  write_there M n m r same last = elim (eqb_tells m n) [
+    | inl p ↦ subst (λ z. Alike (reader_state M z) (reader_state (with_reader n r M) z) × ((reader_state (with_reader n r M) z).last ≡ (reader_state M z).last)) (sym p.1) here
+    | inr p ↦ (alike_eq (state_there M n m r p.1), ap (λ (x : ReaderState). x.last) (state_there M n m r p.1))
+  ]
+    where
+      here : Alike (reader_state M n) (reader_state (with_reader n r M) n) × ((reader_state (with_reader n r M) n).last ≡ (reader_state M n).last)
+      here = elim (set_or_not M.readers n r) [
+        | inl p ↦ subst (λ x. Alike (reader_state M n) x × (x.last ≡ (reader_state M n).last)) (sym (ap (λ o. unwrap_or o first_reader) p)) (same, last)
+        | inr p ↦ subst (λ l. Alike (reader_state M n) (unwrap_or (slice_get l n) first_reader) × ((unwrap_or (slice_get l n) first_reader).last ≡ (reader_state M n).last)) (sym p) (alike_refl (reader_state M n), refl)
+      ]
+
+  pub right_write : (M : SessionState) (n : ℕ) (r : ReaderState) → Alike (reader_state M n) r → r.last ≡ (reader_state M n).last → IsRight app M → IsRight app (with_reader n r M)
+  right_write M n r same last right = right_alike M (with_reader n r M) right refl (state_size M n r) (λ m i is e. (write_there M n m r same last).0) (λ m i is o. (write_there M n m r same last).1)
+
+  pub right_board : (M : SessionState) (t : ℕ) (b : TaskBoard) → IsRight app M → IsRight app (with_board t b M)
+  right_board M t b right = right_alike M (with_board t b M) right refl refl (λ m i is e. alike_refl (reader_state M m)) (λ m i is o. refl)
+
+  -- ---- visits
+  pub right_steps : (k : ℕ) (M N : SessionState) → IsRight app M → Steps app k M N → IsSound app N → IsRight app N
+  right_steps k M N right s sound = record {
+    sound = sound;
+    told = record { at = λ m i is o a.
+        let own : reader_state N m ≡ reader_state M m = s.others m (ap is_expression_at is ∙ no_expression i o) in
+        ap (λ (r : ReaderState). r.last) own ∙ right.told.at m i is o (sym (ap is_alive own) ∙ a) ∙ ap (λ (e : Evaluation). Some e.outcome) (sym (evaluation_same app s.same m (ap (now_by app m) own))) };
+  }
+
+  -- ---- changes
+  pub right_changed : (M : SessionState) (s : ℕ) (x : SourceValue) → IsRight app M → IsRight app (changed_to s x M)
+  right_changed M s x right = record {
+    sound = changed_sound app orderly covered M right.sound s x;
+    told = record { at = λ m i is o a.
+        let was : Unmarked s (reader_state M m) = unmarked s (reader_state M m) (sym (ap is_alive (marked_at s m x M)) ∙ a) in
+        let own : reader_state (changed_to s x M) m ≡ reader_state M m = marked_at s m x M ∙ was.stays in
+        ap (λ (r : ReaderState). r.last) own ∙ right.told.at m i is o was.alive
+        ∙ ap (λ (e : Evaluation). Some e.outcome) (sym (unchanged app orderly covered M right.sound s x m i is (ap (λ b. b || is_output i) (no_expression i o) ∙ o) a)) };
+  }
+
+  either : (b : Bool) (M N : SessionState) → IsRight app M → IsRight app N → IsRight app (if b then M else N)
+  either true M N p q = p
+  either false M N p q = q
+
+  pub right_change : (M : SessionState) (s : ℕ) (x : SourceValue) → IsRight app M → IsRight app (change s x M)
+  right_change M s x right = either (source_eq (value_at M.values s) x) M (changed_to s x M) right (right_changed M s x right)
+
+  pub right_thaw : (xs : List SourceValue) (s : ℕ) (M : SessionState) → IsRight app M → IsRight app (thaw_from s xs M)
+  right_thaw [] s M right = right
+  right_thaw (x ∷ xs) s M right = right_thaw xs (suc s) (change s (thawed x) M) (right_change M s (thawed x) right)
+
+  -- ---- the run of an output, which becomes its last outcome
+  module _ (n : ℕ) (i : Node) (is : reader app n ≡ Some i) (output : is_output i ≡ true) (M : SessionState) (right : IsRight app M) (dead : is_alive (reader_state M n) ≡ false) where
+    abbrev ran : Ran
+    ran = run_reader app n M
+
+    abbrev F : SessionState
+    F = ran.state
+
+    leaves : Leaves app orderly (length (readers app)) n M F ran.outcome
+    leaves = output_leaves app orderly covered n i is output M right.sound dead
+
+    abbrev mine : ReaderState
+    mine = record (reader_state F n) { last = Some ran.outcome }
+
+    abbrev O : SessionState
+    O = with_last n ran.outcome F
+
+    inside : n < length F.readers
+    inside = let at = get_in (readers app) n i is in let size = leaves.sound.size in omega (at, size, arith)
+
+    here : reader_state O n ≡ mine
+    here = state_here F n mine inside
+
+    alike_at : (m : ℕ) → Alike (reader_state F m) (reader_state O m)
+    alike_at m = elim (eqb_tells m n) [
+      | inl p ↦ subst (λ z. Alike (reader_state F z) (reader_state O z)) (sym p.1) (subst (Alike (reader_state F n)) (sym here) (record { dependencies = refl; isolated = refl }))
+      | inr p ↦ alike_eq (state_there F n m mine p.1)
+    ]
+
+    same : Same app F O
+    same = same_readers app F O refl (λ m h. alike_at m)
+
+    sound : IsSound app O
+    sound = sound_stays app orderly F O leaves.sound same (state_size F n mine) (λ m h a. alike_alive (alike_at m) ∙ a) (λ m j js e a. alike_at m)
+
+    -- another output
+    told_there : (m : ℕ) (j : Node) → reader app m ≡ Some j → is_output j ≡ true → is_alive (reader_state O m) ≡ true → m ≢ n → (reader_state O m).last ≡ Some (evaluation_now app O m).outcome
+    told_there m j js o a d =
+        let own : reader_state O m ≡ reader_state M m = state_there F n m mine d ∙ leaves.others m (ap is_expression_at js ∙ no_expression j o) d in
+        ap (λ (r : ReaderState). r.last) own ∙ right.told.at m j js o (sym (ap is_alive own) ∙ a)
+        ∙ ap (λ (e : Evaluation). Some e.outcome) (sym (evaluation_same app (same_trans app leaves.same same) m (ap (now_by app m) own)))
+
+    told_here : (reader_state O n).last ≡ Some (evaluation_now app O n).outcome
+    told_here = ap (λ (r : ReaderState). r.last) here ∙ ap Some (sym leaves.gives) ∙ ap (λ (e : Evaluation). Some e.outcome) (sym (evaluation_same app same n (alike_now app n (alike_at n))))
+
+    pub right_output : IsRight app O
+    right_output = record {
+      sound = sound;
+      told = record { at = λ m j js o a. elim (eqb_tells m n) [
+        | inl p ↦ subst (λ z. (reader_state O z).last ≡ Some (evaluation_now app O z).outcome) (sym p.1) told_here
+        | inr p ↦ told_there m j js o a p.1
+      ] };
+    }
+
+    -- and every expression gives what it gave
+    pub output_same : Same app M O
+    output_same = same_trans app leaves.same same
+
+  -- ---- before the first event
+  none_alive : (is : List Node) (n : ℕ) → unwrap_or (slice_get (first_readers is) n) first_reader ≡ first_reader
+  none_alive [] n = refl
+  none_alive (i ∷ is) zero = refl
+  none_alive (i ∷ is) (suc n) = none_alive is n
+
+  first_size : (is : List Node) → length (first_readers is) ≡ length is
+  first_size [] = refl
+  first_size (i ∷ is) = ap suc (first_size is)
+
+  pub right_first : IsRight app (first_state app)
+  right_first = record {
+    sound = record { size = first_size (readers app); at = λ n i is e a. absurd (not_both (sym (ap is_alive (none_alive (readers app) n)) ∙ a) refl) };
+    told = record { at = λ n i is o a. absurd (not_both (sym (ap is_alive (none_alive (readers app) n)) ∙ a) refl) };
+  }
