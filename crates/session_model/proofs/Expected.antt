@@ -69,7 +69,7 @@ unmapped : {A B : Type 0} (f : A → B) (o : Option A) → option_map f o ≡ No
 unmapped f None h = refl
 unmapped f (Some x) h = cc
 
-settled : (app : Shape) (state : SessionState) → next_waiting app state ≡ None → IsSettled app state
+pub settled : (app : Shape) (state : SessionState) → next_waiting app state ≡ None → IsSettled app state
 settled app state h n i r p q = none_waits 0 (readers app) state.readers n i r (unmapped (λ w. w.number) (waiting_from 0 (readers app) state.readers) h) p q
 
 ends_done : (o : Option ℕ) → flush_end o ≡ done → o ≡ None
@@ -105,6 +105,9 @@ module _ (app : Shape) where
 
 pub done_is_settled : DoneIsSettled
 done_is_settled app state e = settled app (flush app state).state ((rests app app.budget state [] 0).0 e)
+
+pub nobody_waits : (app : Shape) (state : SessionState) → (flush app state).end ≡ done → next_waiting app (flush app state).state ≡ None
+nobody_waits app state e = (rests app app.budget state [] 0).0 e
 
 pub is_within_budget : IsWithinBudget
 is_within_budget app state = let most = (rests app app.budget state [] 0).1 in omega (most, arith)

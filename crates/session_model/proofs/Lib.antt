@@ -27,3 +27,6 @@ pub mod Changing
 pub mod WellOrdered
 pub mod Apart
 pub mod Right
+pub mod Observed
+pub mod Journeys
+pub mod RightLaws

@@ -24,5 +24,6 @@ pub mod AskedLaws
 pub mod Orderly
 pub mod Now
 pub mod Sound
+pub mod RightLaws
 pub mod AppLaws
 pub mod Apart

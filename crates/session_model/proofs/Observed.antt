@@ -1,0 +1,201 @@
+-- An observer's run keeps right what a session keeps, and each of its terms comes to its evaluation on what every
+-- reader gives now.
+use Rattle.std.proofs.Common.{◌≡◌, ◌≢◌, ◌≤◌, ◌<◌, ℕ, zero, suc, ◌+◌, ◌-◌, Bool, true, false, List, [], ◌∷◌, ◌++◌, length, Option, Some, None, refl, sym, ap, ◌∙◌, subst, arith}
+use Rattle.std.specs.Prelude.{⊤, not, ◌&&◌, ◌||◌, slice_get}
+use Rattle.rx_value.specs.declared.value.Value.{Value}
+use Rattle.rx_value.specs.declared.value.Value.TheVariants as v
+use Rattle.rx_value.specs.declared.outcome.Outcome.{Outcome}
+use Rattle.rx_value.specs.declared.outcome.Outcome.TheVariants as outcome
+use Rattle.rx_value.specs.Functions.{is_null}
+use Rattle.rx_value.specs.declared.source.TaskView.{TaskView}
+use Rattle.rx_value.specs.declared.source.TaskView.TheVariants as view
+use Rattle.rx_value.specs.declared.source.SourceValue.TheVariants.{Plain, Task}
+use Rattle.app_tree.specs.declared.term.Read.{Read}
+use Rattle.app_tree.specs.declared.term.Read.TheVariants as read
+use Rattle.app_tree.specs.declared.item.Flags.{Flags}
+use Rattle.app_tree.specs.Tree.{Tree, Trees, no_trees, tree, Act, set, invoke, update, freeze, perform, branch, branch_else, Acts, no_acts, act, Node, input, value, task, reactive, event, text, plot, observe, on, Shape}
+use Rattle.app_tree.specs.Numbering.{readers, reader, is_expression, is_output, is_observer}
+use Rattle.app_tree.specs.Current.{value_at, told}
+use Rattle.app_tree.specs.Evaluate.{Answers, Asked, Evaluation, evaluate, site_count, site_count_all}
+use Rattle.app_tree.specs.Cover.{reads_in, reads_in_all, is_covered}
+use Rattle.app_tree.specs.Fresh.{known_at, answer_to, is_expression_at, fresh_outcome}
+use Rattle.task_board.specs.declared.job.Invocation.{Invocation}
+use Rattle.task_board.specs.declared.job.Invoked.{Invoked}
+use Rattle.task_board.specs.declared.job.Invoked.TheVariants.{Started, Queued, QueueFull}
+use Rattle.task_board.specs.Board.{AfterInvoke, board_at, invoked}
+use Rattle.session_model.specs.State.{SessionState, isolated_of, reader_state, with_reader, with_sources, has_run}
+use Rattle.session_model.specs.Change.{change, frozen}
+use Rattle.session_model.specs.AskedLaws.{Every}
+use Rattle.session_model.specs.Reading.{Reached, Visited, Manner, read_term}
+use Rattle.session_model.specs.Run.{choose, passing, visit_expression}
+use Rattle.session_model.specs.Tasks.{first_task, with_board, see_task}
+use Rattle.session_model.specs.Observing.{Acted, sources_reached, more_sources, with_reads, counting, acted, went, then_acted, then_acts_by, then_acts, of_term, with_value_by, with_value, tell_input, after_invoke, invoke_task, choose_block, observed, with_values, do_act, do_acts, do_on, observe_node, run_observer}
+use Rattle.session_model.specs.Orderly.{ReadsBelow, bound_of, IsOrderly, IsNumbered, AreNumbered, act_sites, IsNumberedAct, AreNumberedActs, reads_in_act, reads_in_acts, reads_in_node}
+use Rattle.session_model.specs.Now.{EveryRead, known_now, term_answers, read_by_trace, walked}
+use Rattle.session_model.specs.Sound.{is_evaluated, IsSound, IsRight}
+use Rattle.session_model.proofs.Agreeing.{front, back}
+use Rattle.session_model.proofs.WhatIsAsked.{term_asks, if_false}
+use Rattle.session_model.proofs.Staying.{same_trans}
+use Rattle.session_model.proofs.Freshness.{expression_now}
+use Rattle.session_model.proofs.Moving.{Steps, steps_refl, steps_trans, Visits, Good}
+use Rattle.session_model.proofs.Walking.{expression_of}
+use Rattle.session_model.proofs.Threading.{Serves, IsSourceRead, through, walks_fine, term_through}
+use Rattle.session_model.proofs.Running.{visits_good}
+use Rattle.session_model.proofs.Right.{observer_alone, right_observer, right_board, right_steps, right_change}
+
+module _ (app : Shape) (orderly : IsOrderly app) (covered : (n : ℕ) → is_covered app n ≡ true) where
+  abbrev R : ℕ
+  R = length (readers app)
+
+  good : Good app R (visit_expression app)
+  good = visits_good app orderly covered R
+
+  abbrev Low : Read → Type 0
+  Low = ReadsBelow app R
+
+  -- ---- a term
+  module _ (M : SessionState) where
+    pub record IsOn (N : SessionState) : Type 0 where
+      pub right : IsRight app N
+      pub steps : Steps app R M N
+
+    told_same : (r : Read) → IsSourceRead r → (N : SessionState) → IsOn N → told app N.values r ≡ answer_to app M.values (known_now app M) r
+    told_same (read.Expr m) q N f = absurd q
+    told_same (read.Input s) q N f = ap (λ v. told app v (read.Input s)) f.steps.same.values
+    told_same (read.Value s) q N f = ap (λ v. told app v (read.Value s)) f.steps.same.values
+    told_same (read.Status s) q N f = ap (λ v. told app v (read.Status s)) f.steps.same.values
+    told_same (read.Result s) q N f = ap (λ v. told app v (read.Result s)) f.steps.same.values
+    told_same (read.Width m) q N f = ap (λ v. told app v (read.Width m)) f.steps.same.values
+    told_same (read.Height m) q N f = ap (λ v. told app v (read.Height m)) f.steps.same.values
+
+    visit_on : (m : ℕ) → Low (read.Expr m) → (N : SessionState) → IsOn N → IsOn (visit_expression app m N).state
+    visit_on m h N f = let w = good m h.0 h.1 N f.right.sound in record { right = right_steps app orderly covered R N (visit_expression app m N).state f.right w.steps w.sound; steps = steps_trans app f.steps w.steps }
+
+    visit_gives : (m : ℕ) → Low (read.Expr m) → (N : SessionState) → IsOn N → fresh_outcome app (visit_expression app m N).state.values (isolated_of (visit_expression app m N).state) m ≡ (known_at (known_now app M) m).outcome
+    visit_gives m h N f =
+        let w = good m h.0 h.1 N f.right.sound in
+        let e = expression_of app m h.1 in
+        expression_now app orderly (visit_expression app m N).state w.sound m e.0 e.1 e.2 w.alive ∙ ap (λ l. (known_at l m).outcome) (w.steps.same.known ∙ f.steps.same.known)
+
+    serves : Serves app (passing (visit_expression app)) (term_answers app M) Low IsOn
+    serves = record { source = told_same; gives = visit_gives; visits = visit_on; keeps = λ s x N f. f }
+
+    module _ (right : IsRight app M) (t : Tree) (n : ℕ) (numbered : IsNumbered n t) (low : Every Low (reads_in t)) where
+      starts : IsOn M
+      starts = record { right = right; steps = steps_refl app R M }
+
+      -- a term of an observer as it is stated is the term by its evaluation
+      pub term_is : read_term app (passing (visit_expression app)) t [] M ≡ read_by_trace app (passing (visit_expression app)) t M
+      term_is = term_through app (passing (visit_expression app)) (term_answers app M) Low IsOn serves n (n + site_count t) (λ s i j. refl) t n numbered low (omega arith) (omega arith) [] M starts
+
+      pub term_right : IsRight app (read_term app (passing (visit_expression app)) t [] M).state
+      term_right =
+          let e : Evaluation = evaluate t (term_answers app M) [] in
+          subst (λ (r : Reached). IsRight app r.state) (sym term_is)
+          (walks_fine app (passing (visit_expression app)) (term_answers app M) Low IsOn serves e.asked (term_asks (term_answers app M) Low t n (n + site_count t) numbered low (omega arith) []) M starts).right
+
+  -- ---- the statements of observer n
+  module _ (n : ℕ) (alone : (i : Node) → reader app n ≡ Some i → is_evaluated i ≡ false) where
+    reads_right : (rs : List Read) (M : SessionState) → IsRight app M → IsRight app (with_reads app n rs M)
+    reads_right [] M right = right
+    reads_right (r ∷ rs) M right =
+        reads_right rs (with_reader n (record (reader_state M n) { dependencies = more_sources (sources_reached app M r) (reader_state M n).dependencies }) M)
+        (right_observer app orderly covered M n (record (reader_state M n) { dependencies = more_sources (sources_reached app M r) (reader_state M n).dependencies }) alone right)
+
+    counting_right : (counts : Bool) (e : Reached) → IsRight app e.state → IsRight app (counting app n counts e).state
+    counting_right true e right = reads_right e.outside e.state right
+    counting_right false e right = right
+
+    abbrev Keeps : (SessionState → Acted) → Type 0
+    Keeps f = (M : SessionState) → IsRight app M → IsRight app (f M).state
+
+    observed_right : (counts : Bool) (t : Tree) (k : ℕ) → IsNumbered k t → Every Low (reads_in t) → (M : SessionState) → IsRight app M → IsRight app (observed app n counts t M).state
+    observed_right counts t k d low M right = counting_right counts (read_term app (passing (visit_expression app)) t [] M) (term_right M right t k d low)
+
+    value_by : (e : Reached) (x : Outcome) (next : Value → SessionState → Acted) → IsRight app e.state → ((y : Value) → Keeps (next y)) → IsRight app (with_value_by e x next).state
+    value_by e (outcome.Val y) next right k = k y e.state right
+    value_by e (outcome.Fail t) next right k = right
+    value_by e outcome.Stop next right k = right
+    value_by e outcome.Cancel next right k = right
+    value_by e outcome.Running next right k = right
+
+    value_right : (e : Reached) (next : Value → SessionState → Acted) → IsRight app e.state → ((y : Value) → Keeps (next y)) → IsRight app (with_value e next).state
+    value_right e next right k = value_by e e.outcome next right k
+
+    acts_by : (a : Acted) (x : Outcome) (next : SessionState → Acted) → IsRight app a.state → Keeps next → IsRight app (then_acts_by a x next).state
+    acts_by a (outcome.Val y) next right k = k a.state right
+    acts_by a (outcome.Fail t) next right k = right
+    acts_by a outcome.Stop next right k = right
+    acts_by a outcome.Cancel next right k = right
+    acts_by a outcome.Running next right k = right
+
+    invoked_right : (t : ℕ) (after : AfterInvoke) (answer : Invoked) → Keeps (after_invoke app t after answer)
+    invoked_right t after (Started job) M right = right_board app orderly covered (see_task app t view.Running M) t after.board (right_change app orderly covered M (first_task app + t) (Task view.Running) right)
+    invoked_right t after Queued M right = right_board app orderly covered M t after.board right
+    invoked_right t after QueueFull M right = right
+
+    values_right : (counts : Bool) (ts : Trees) (k : ℕ) → AreNumbered k ts → Every Low (reads_in_all ts) → (done : List Value) (next : List Value → SessionState → Acted) → ((xs : List Value) → Keeps (next xs)) → Keeps (with_values app n counts ts done next)
+    values_right counts no_trees k d low done next h M right = h done M right
+    values_right counts (tree t more) k d low done next h M right =
+        value_right (observed app n counts t M) (λ x. with_values app n counts more (done ++ x ∷ []) next) (observed_right counts t k d.0 (front Low (reads_in t) (reads_in_all more) low) M right)
+        (λ x. values_right counts more (k + site_count t) d.1 (back Low (reads_in t) (reads_in_all more) low) (done ++ x ∷ []) next h)
+
+    block_right : (one other : SessionState → Acted) → Keeps one → Keeps other → (x : Value) → Keeps (choose_block one other x)
+    block_right one other p q (v.Bool true) M right = p M right
+    block_right one other p q (v.Bool false) M right = q M right
+    block_right one other p q v.Null M right = right
+    block_right one other p q (v.Int z) M right = right
+    block_right one other p q (v.Text t) M right = right
+    block_right one other p q (v.Ints zs) M right = right
+
+    mutual
+      act_right : (counts : Bool) (a : Act) (k : ℕ) → IsNumberedAct k a → Every Low (reads_in_act a) → Keeps (do_act app n counts a)
+      act_right counts (set s t) k d low M right =
+          value_right (observed app n counts t M) (λ x after. went (change s (Plain x) after)) (observed_right counts t k d low M right) (λ x N r. right_change app orderly covered N s (Plain x) r)
+      act_right counts (invoke s ts) k d low M right =
+          values_right counts ts k d low [] (invoke_task app (s - first_task app))
+          (λ xs N r. invoked_right (s - first_task app) (invoked (s - first_task app) xs (board_at N.boards (s - first_task app))) (invoked (s - first_task app) xs (board_at N.boards (s - first_task app))).answer N r) M right
+      act_right counts (update s t) k d low M right = value_right (observed app n counts t M) (tell_input app s) (observed_right counts t k d low M right) (λ x N r. r)
+      act_right counts (freeze s) k d low M right = right_change app orderly covered M s (frozen (value_at M.values s)) right
+      act_right counts (perform t) k d low M right = observed_right counts t k d low M right
+      act_right counts (branch t block) k d low M right =
+          value_right (observed app n counts t M) (choose_block (do_acts app n counts block) went) (observed_right counts t k d.0 (front Low (reads_in t) (reads_in_acts block) low) M right)
+          (block_right (do_acts app n counts block) went (acts_right counts block (k + site_count t) d.1 (back Low (reads_in t) (reads_in_acts block) low)) (λ N r. r))
+      act_right counts (branch_else t block other) k d low M right =
+          let rest : Every Low (reads_in_acts block ++ reads_in_acts other) = back Low (reads_in t) (reads_in_acts block ++ reads_in_acts other) low in
+          value_right (observed app n counts t M) (choose_block (do_acts app n counts block) (do_acts app n counts other)) (observed_right counts t k d.0 (front Low (reads_in t) (reads_in_acts block ++ reads_in_acts other) low) M right)
+          (block_right (do_acts app n counts block) (do_acts app n counts other) (acts_right counts block (k + site_count t) d.1.0 (front Low (reads_in_acts block) (reads_in_acts other) rest))
+          (acts_right counts other _ d.1.1 (back Low (reads_in_acts block) (reads_in_acts other) rest)))
+
+      acts_right : (counts : Bool) (block : Acts) (k : ℕ) → AreNumberedActs k block → Every Low (reads_in_acts block) → Keeps (do_acts app n counts block)
+      acts_right counts no_acts k d low M right = right
+      acts_right counts (act a more) k d low M right =
+          acts_by (do_act app n counts a M) (do_act app n counts a M).outcome (do_acts app n counts more) (act_right counts a k d.0 (front Low (reads_in_act a) (reads_in_acts more) low) M right)
+          (acts_right counts more (k + act_sites a) d.1 (back Low (reads_in_act a) (reads_in_acts more) low))
+
+    chosen_right : (b : Bool) (one other : SessionState → Acted) → Keeps one → Keeps other → Keeps (choose b one other)
+    chosen_right true one other p q M right = p M right
+    chosen_right false one other p q M right = q M right
+
+    node_right : (first : Bool) (i : Node) → reader app n ≡ Some i → Keeps (observe_node app n first (Some i))
+    node_right first (input name start) is M right = right
+    node_right first (value name start) is M right = right
+    node_right first (task name parameters body) is M right = right
+    node_right first (reactive name keys body) is M right = right
+    node_right first (event name flags e body) is M right = right
+    node_right first (text name shown) is M right = right
+    node_right first (plot name shown) is M right = right
+    node_right first (observe name priority block) is M right = acts_right true block 0 (orderly.sites n (observe name priority block) is) (orderly.reads n (observe name priority block) is) M right
+    node_right first (on name priority flags e block) is M right =
+        let d = orderly.sites n (on name priority flags e block) is in
+        let low : Every Low (reads_in e ++ reads_in_acts block) = orderly.reads n (on name priority flags e block) is in
+        value_right (observed app n true e M) (do_on app n first flags block) (observed_right true e 0 d.0 (front Low (reads_in e) (reads_in_acts block) low) M right)
+        (λ x. chosen_right (is_null x && not flags.allow_null || first && flags.ignore_init) (acted outcome.Stop) (do_acts app n false block) (λ N r. r) (acts_right false block (suc (site_count e)) d.1 (back Low (reads_in e) (reads_in_acts block) low)))
+
+    nobody : (first : Bool) (o : Option Node) → reader app n ≡ o → Keeps (observe_node app n first o)
+    nobody first None is M right = right
+    nobody first (Some i) is M right = node_right first i is M right
+
+    pub right_observed : Keeps (run_observer app n)
+    right_observed M right =
+        nobody (not (has_run (reader_state M n))) (reader app n) refl (with_sources n [] M) (right_observer app orderly covered M n (record (reader_state M n) { dependencies = Some (record { sources = []; changed = false }) }) alone right)

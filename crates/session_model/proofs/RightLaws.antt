@@ -1,0 +1,189 @@
+-- The laws on the states that a session comes to.
+use Rattle.std.proofs.Common.{◌≡◌, ◌≢◌, inl, inr, ◌≤◌, ◌<◌, ℕ, zero, suc, Bool, true, false, List, [], ◌∷◌, length, Option, Some, None, refl, sym, ap, ◌∙◌, subst, arith}
+use Rattle.std.specs.Prelude.{⊤, ◌&&◌, ◌||◌, slice_get, unwrap_or}
+use Rattle.std.proofs.lemmas.Bool.{false≢true}
+use Rattle.std.proofs.lemmas.Bool.Decides.{eqb_tells}
+use Rattle.rx_value.specs.declared.outcome.Outcome.{Outcome}
+use Rattle.rx_value.specs.declared.outcome.Outcome.TheVariants as outcome
+use Rattle.app_tree.specs.declared.term.Read.{Read}
+use Rattle.app_tree.specs.declared.term.Read.TheVariants as read
+use Rattle.app_tree.specs.Tree.{Node, input, value, task, reactive, event, text, plot, observe, on, Shape}
+use Rattle.app_tree.specs.Numbering.{readers, reader, is_expression, is_output}
+use Rattle.app_tree.specs.Current.{CurrentValues, value_at}
+use Rattle.app_tree.specs.Cover.{Cached, cached_node, is_covered_by, is_covered, is_sound_below, is_sound}
+use Rattle.app_tree.specs.Evaluate.{Asked, reads, given, enters, leaves, Evaluation}
+use Rattle.app_tree.specs.Fresh.{IsolatedOutcomes, kept_sites, answer_to, known_expressions, evaluate_node, fresh_outcome, sources_read}
+use Rattle.session_model.specs.State.{SessionState, first_reader, first_readers, first_state, isolated_of, reader_state, is_alive}
+use Rattle.session_model.specs.Flush.{is_wanted, make_by, is_observer_at, next_waiting, make_run}
+use Rattle.session_model.specs.Alone.{course_of, ending, state_after}
+use Rattle.session_model.specs.AskedLaws.{Every}
+use Rattle.session_model.specs.Orderly.{IsOrderly}
+use Rattle.session_model.specs.Now.{EveryRead, OfRead, known_now}
+use Rattle.session_model.specs.Sound.{is_evaluated, IsRight}
+use Rattle.session_model.specs.RightLaws.{IsProper, FirstIsRight, ChangeKeepsRight, RunKeepsRight, FlushKeepsRight, JournalIsRight, AliveIsFresh, AliveDependsOnReads, RunIsByTrace, RunLeavesNow, WantedIsFresh, ShownIsFresh, DependsOnReadsAlone}
+use Rattle.session_model.proofs.WellOrdered.{well_formed_is_orderly}
+use Rattle.session_model.proofs.Covering.{and_left, and_right}
+use Rattle.session_model.proofs.KnownLists.{get_in}
+use Rattle.session_model.proofs.Moving.{not_both}
+use Rattle.session_model.proofs.Freshness.{reader_fresh, reader_fresh_sources}
+use Rattle.session_model.proofs.WhatIsAsked.{every_all}
+use Rattle.session_model.proofs.Quiet.{Follows, quiet_evaluation}
+use Rattle.session_model.proofs.Running.{no_expression, output_run}
+use Rattle.session_model.proofs.Right.{output_same, right_change, right_first}
+use Rattle.session_model.proofs.Journeys.{next_waits, right_run, right_flush, journal_well, settled_fresh}
+
+-- each reader is covered, also those that there are not
+sound_at : (app : Shape) (k n : ℕ) → n < k → is_sound_below app k ≡ true → is_covered app n ≡ true
+sound_at app zero n h s = absurd (omega (h, arith))
+sound_at app (suc k) n h s = elim (eqb_tells n k) [
+  | inl p ↦ subst (λ z. is_covered app z ≡ true) (sym p.1) (and_right (is_sound_below app k) (is_covered app k) s)
+  | inr p ↦ sound_at app k n (let d = p.1 in omega (h, d, arith)) (and_left (is_sound_below app k) (is_covered app k) s)
+]
+
+covered_where : (app : Shape) (n : ℕ) → is_sound app ≡ true → (o : Option Node) → reader app n ≡ o → is_covered app n ≡ true
+covered_where app n s None is = ap (λ (o : Option Node). is_covered_by app (cached_node o)) is
+covered_where app n s (Some i) is = sound_at app (length (readers app)) n (get_in (readers app) n i is) s
+
+pub covered_all : (app : Shape) → is_sound app ≡ true → (n : ℕ) → is_covered app n ≡ true
+covered_all app s n = covered_where app n s (reader app n) refl
+
+module _ (app : Shape) (proper : IsProper app) where
+  abbrev orderly : IsOrderly app
+  orderly = well_formed_is_orderly app proper.well_formed
+
+  abbrev covered : (n : ℕ) → is_covered app n ≡ true
+  covered = covered_all app proper.covered
+
+pub first_is_right : FirstIsRight
+first_is_right app p = right_first app (orderly app p) (covered app p)
+
+pub change_keeps_right : ChangeKeepsRight
+change_keeps_right app p state s x right = right_change app (orderly app p) (covered app p) state s x right
+
+pub run_keeps_right : RunKeepsRight
+run_keeps_right app p state n right h = right_run app (orderly app p) (covered app p) n state right (next_waits app state n h)
+
+pub flush_keeps_right : FlushKeepsRight
+flush_keeps_right app p state right = right_flush app (orderly app p) (covered app p) state right
+
+pub journal_is_right : JournalIsRight
+journal_is_right app p journal = (journal_well app (orderly app p) (covered app p) journal).right
+
+pub alive_is_fresh : AliveIsFresh
+alive_is_fresh app p state right n i is e a = ap (λ (x : Evaluation). x.outcome) (sym (reader_fresh app (orderly app p) state right.sound n i is e a))
+
+pub alive_depends_on_reads : AliveDependsOnReads
+alive_depends_on_reads app p state right n i is e a = (right.sound.at n i is e a).sources ∙ sym (reader_fresh_sources app (orderly app p) state right.sound n i is e a)
+
+pub run_is_by_trace : RunIsByTrace
+run_is_by_trace app p state right n i is o dead = output_run app (orderly app p) (covered app p) n i is o state right.sound dead
+
+no_observer : (i : Node) → is_output i ≡ true → is_observer_at (Some i) ≡ false
+no_observer (input name start) h = cc
+no_observer (value name start) h = cc
+no_observer (task name parameters body) h = cc
+no_observer (reactive name keys body) h = cc
+no_observer (event name flags e body) h = cc
+no_observer (text name shown) h = refl
+no_observer (plot name shown) h = refl
+no_observer (observe name priority block) h = cc
+no_observer (on name priority flags e block) h = cc
+
+pub run_leaves_now : RunLeavesNow
+run_leaves_now app p state right n i is o dead =
+    ap (λ b. known_now app (make_by b app n state).state) (ap is_observer_at is ∙ no_observer i o)
+    ∙ (output_same app (orderly app p) (covered app p) n i is o state right dead).known
+
+pub wanted_is_fresh : WantedIsFresh
+wanted_is_fresh app p journal none begun n i is o wanted =
+    let w = journal_well app (orderly app p) (covered app p) journal in
+    settled_fresh app (orderly app p) (covered app p) (state_after app journal) w.right (w.waits none begun) n i is o wanted
+
+shown_wanted : (i : Node) (state : SessionState) (n : ℕ) → is_output i ≡ true → (reader_state state n).shown ≡ true → is_wanted i (reader_state state n) ≡ true
+shown_wanted (input name start) state n o h = cc
+shown_wanted (value name start) state n o h = cc
+shown_wanted (task name parameters body) state n o h = cc
+shown_wanted (reactive name keys body) state n o h = cc
+shown_wanted (event name flags e body) state n o h = cc
+shown_wanted (text name shown) state n o h = or_true shown.while_hidden (reader_state state n).shown h
+  where
+    or_true : (a b : Bool) → b ≡ true → (a || b) ≡ true
+    or_true true b h = refl
+    or_true false b h = h
+shown_wanted (plot name shown) state n o h = or_true shown.while_hidden (reader_state state n).shown h
+  where
+    or_true : (a b : Bool) → b ≡ true → (a || b) ≡ true
+    or_true true b h = refl
+    or_true false b h = h
+shown_wanted (observe name priority block) state n o h = refl
+shown_wanted (on name priority flags e block) state n o h = refl
+
+none_shown : (is : List Node) (n : ℕ) → (unwrap_or (slice_get (first_readers is) n) first_reader).shown ≡ false
+none_shown [] n = refl
+none_shown (i ∷ is) zero = refl
+none_shown (i ∷ is) (suc n) = none_shown is n
+
+pub shown_is_fresh : ShownIsFresh
+shown_is_fresh app p journal none n i is o shown = by (course_of app journal).begun refl
+  where
+    by : (b : Bool) → (course_of app journal).begun ≡ b → (reader_state (state_after app journal) n).last ≡ Some (fresh_outcome app (state_after app journal).values (isolated_of (state_after app journal)) n)
+    by true begun = wanted_is_fresh app p journal none begun n i is o (shown_wanted i (state_after app journal) n o shown)
+    by false begun = absurd (not_both shown (ap (λ (s : SessionState). (reader_state s n).shown) ((journal_well app (orderly app p) (covered app p) journal).first begun) ∙ none_shown (readers app) n))
+
+-- ---- what a reader comes to
+
+module _ (app : Shape) (proper : IsProper app) (values others : CurrentValues) (isolated : IsolatedOutcomes) where
+  abbrev Same : ℕ → Type 0
+  Same s = value_at values s ≡ value_at others s
+
+  abbrev Goes : Read → Type 0
+  Goes = Follows app (orderly app proper) (covered app proper) values others (kept_sites isolated) (kept_sites isolated) Same (λ s h. h) (λ n. ⊤) (λ n h s. tt) (λ n h s. refl)
+
+  goes_read : (r : Read) → Goes r
+  goes_read (read.Expr m) = λ q. tt
+  goes_read (read.Input s) = tt
+  goes_read (read.Value s) = tt
+  goes_read (read.Status s) = tt
+  goes_read (read.Result s) = tt
+  goes_read (read.Width n) = tt
+  goes_read (read.Height n) = tt
+
+  goes_all : (x : Asked) → OfRead Goes x
+  goes_all (reads r) = goes_read r
+  goes_all (given s) = tt
+  goes_all (enters s) = tt
+  goes_all (leaves s o) = tt
+
+  evaluated_by : (n : ℕ) (i : Node) → reader app n ≡ Some i → is_evaluated i ≡ true → Every Same (sources_read app values isolated n) → fresh_outcome app others isolated n ≡ fresh_outcome app values isolated n
+  evaluated_by n i is e h =
+      ap (λ (x : Evaluation). x.outcome)
+      (quiet_evaluation app (orderly app proper) (covered app proper) values others (kept_sites isolated) (kept_sites isolated) Same (λ s h. h) (λ n. ⊤) (λ n h s. tt) (λ n h s. refl) (λ m j js x l. every_all (OfRead Goes) goes_all _) n i is e tt h)
+
+  -- any other reader comes to nothing
+  stops : (n : ℕ) (i : Node) → reader app n ≡ Some i → is_evaluated i ≡ false → (v : CurrentValues) → fresh_outcome app v isolated n ≡ outcome.Stop
+  stops n i is e v = ap (λ (o : Option Node). (evaluate_node o (record { read = answer_to app v (known_expressions app v (kept_sites isolated)); site = kept_sites isolated n })).outcome) is ∙ nothing i e
+    where
+      nothing : (j : Node) → is_evaluated j ≡ false → (evaluate_node (Some j) (record { read = answer_to app v (known_expressions app v (kept_sites isolated)); site = kept_sites isolated n })).outcome ≡ outcome.Stop
+      nothing (input name start) h = refl
+      nothing (value name start) h = refl
+      nothing (task name parameters body) h = refl
+      nothing (reactive name keys body) h = cc
+      nothing (event name flags x body) h = cc
+      nothing (text name shown) h = cc
+      nothing (plot name shown) h = cc
+      nothing (observe name priority block) h = refl
+      nothing (on name priority flags x block) h = refl
+
+  none_there : (n : ℕ) → reader app n ≡ None → (v : CurrentValues) → fresh_outcome app v isolated n ≡ outcome.Stop
+  none_there n is v = ap (λ (o : Option Node). (evaluate_node o (record { read = answer_to app v (known_expressions app v (kept_sites isolated)); site = kept_sites isolated n })).outcome) is
+
+  depends_by : (n : ℕ) (o : Option Node) → reader app n ≡ o → Every Same (sources_read app values isolated n) → fresh_outcome app others isolated n ≡ fresh_outcome app values isolated n
+  depends_by n None is h = none_there n is others ∙ sym (none_there n is values)
+  depends_by n (Some i) is h = by (is_evaluated i) refl
+    where
+      by : (b : Bool) → is_evaluated i ≡ b → fresh_outcome app others isolated n ≡ fresh_outcome app values isolated n
+      by true e = evaluated_by n i is e h
+      by false e = stops n i is e others ∙ sym (stops n i is e values)
+
+pub depends_on_reads_alone : DependsOnReadsAlone
+depends_on_reads_alone app p values others isolated n h = depends_by app p values others isolated n (reader app n) refl h
