@@ -65,13 +65,13 @@ one_of w (Some x) P p k = by (int_lt w.priority x.priority)
     by true = k x refl
     by false = p
 
-moved_on : (n k : ℕ) → suc n + k ≡ n + suc k
+pub moved_on : (n k : ℕ) → suc n + k ≡ n + suc k
 moved_on n k = omega arith
 
 still : (n : ℕ) → n ≡ n + 0
 still n = omega arith
 
-some_is : {A : Type 0} {x y : A} → Some x ≡ Some y → x ≡ y
+pub some_is : {A : Type 0} {x y : A} → Some x ≡ Some y → x ≡ y
 some_is h = cc
 
 later_waits : (n : ℕ) (i : Node) (is : List Node) (r : ReaderState) (rs : List ReaderState) (x : Waiting) → WaitsFrom (suc n) is rs x → WaitsFrom n (i ∷ is) (r ∷ rs) x
@@ -101,7 +101,7 @@ next_waits app state n h =
     let at : f.behind ≡ n = (let number = f.number in let same = found.2 in omega (number, same, arith)) in
     subst (Waits app state) at (record { node = f.node; is = f.here; waits = subst (λ r. is_waiting f.node r ≡ true) (sym (ap (λ o. unwrap_or o first_reader) f.there)) f.waits })
 
-get_some : {A : Type 0} (xs : List A) (n : ℕ) → n < length xs → (x : A) × (slice_get xs n ≡ Some x)
+pub get_some : {A : Type 0} (xs : List A) (n : ℕ) → n < length xs → (x : A) × (slice_get xs n ≡ Some x)
 get_some [] n h = absurd (omega (h, arith))
 get_some (x ∷ xs) zero h = (x, refl)
 get_some (x ∷ xs) (suc n) h = get_some xs n (omega (h, arith))

@@ -1,6 +1,6 @@
 -- The laws on the states that a session comes to.
-use Rattle.std.proofs.Common.{◌≡◌, ◌≢◌, inl, inr, ◌≤◌, ◌<◌, ℕ, zero, suc, Bool, true, false, List, [], ◌∷◌, length, Option, Some, None, refl, sym, ap, ◌∙◌, subst, arith}
-use Rattle.std.specs.Prelude.{⊤, ◌&&◌, ◌||◌, slice_get, unwrap_or}
+use Rattle.std.proofs.Common.{◌≡◌, ◌≢◌, inl, inr, ◌≤◌, ◌<◌, ℕ, zero, suc, ◌+◌, Bool, true, false, List, [], ◌∷◌, length, Option, Some, None, refl, sym, ap, ◌∙◌, subst, arith}
+use Rattle.std.specs.Prelude.{⊤, not, ◌&&◌, ◌||◌, slice_get, unwrap_or, if◌then◌else◌}
 use Rattle.std.proofs.lemmas.Bool.{false≢true}
 use Rattle.std.proofs.lemmas.Bool.Decides.{eqb_tells}
 use Rattle.rx_value.specs.declared.outcome.Outcome.{Outcome}
@@ -13,24 +13,34 @@ use Rattle.app_tree.specs.Current.{CurrentValues, value_at}
 use Rattle.app_tree.specs.Cover.{Cached, cached_node, is_covered_by, is_covered, is_sound_below, is_sound}
 use Rattle.app_tree.specs.Evaluate.{Asked, reads, given, enters, leaves, Evaluation}
 use Rattle.app_tree.specs.Fresh.{IsolatedOutcomes, kept_sites, answer_to, known_expressions, evaluate_node, fresh_outcome, sources_read}
-use Rattle.session_model.specs.State.{SessionState, first_reader, first_readers, first_state, isolated_of, reader_state, is_alive}
+use Rattle.session_model.specs.State.{SessionState, first_reader, first_readers, first_state, isolated_of, reader_state, has_run, is_alive}
 use Rattle.session_model.specs.Flush.{is_wanted, make_by, is_observer_at, next_waiting, make_run}
 use Rattle.session_model.specs.Alone.{course_of, ending, state_after}
 use Rattle.session_model.specs.AskedLaws.{Every}
-use Rattle.session_model.specs.Orderly.{IsOrderly}
-use Rattle.session_model.specs.Now.{EveryRead, OfRead, known_now}
-use Rattle.session_model.specs.Sound.{is_evaluated, IsRight}
-use Rattle.session_model.specs.RightLaws.{IsProper, FirstIsRight, ChangeKeepsRight, RunKeepsRight, FlushKeepsRight, JournalIsRight, AliveIsFresh, AliveDependsOnReads, RunIsByTrace, RunLeavesNow, WantedIsFresh, ShownIsFresh, DependsOnReadsAlone}
+use Rattle.session_model.specs.declared.state.ReaderState.{ReaderState}
+use Rattle.session_model.specs.Run.{visit_below}
+use Rattle.session_model.specs.Orderly.{bound_of, IsOrderly}
+use Rattle.session_model.specs.Standing.{first_kept, kept_reader, IsConsistent, fresh_answers, missing_below, kept_from, keeping_all}
+use Rattle.session_model.specs.Now.{EveryRead, OfRead, known_now, node_count}
+use Rattle.session_model.specs.Sound.{is_evaluated, IsAliveRead, IsRight}
+use Rattle.session_model.specs.RightLaws.{IsProper, FirstIsRight, ChangeKeepsRight, RunKeepsRight, FlushKeepsRight, JournalIsRight, AliveIsFresh, AliveDependsOnReads, RunIsByTrace, RunLeavesNow, WantedIsFresh, ShownIsFresh, DependsOnReadsAlone, ExpressionIsByTrace, TermIsByTrace, JournalIsConsistent, KeepingAllStands, NoneIsMissing}
 use Rattle.session_model.proofs.WellOrdered.{well_formed_is_orderly}
 use Rattle.session_model.proofs.Covering.{and_left, and_right}
 use Rattle.session_model.proofs.KnownLists.{get_in}
-use Rattle.session_model.proofs.Moving.{not_both}
+use Rattle.session_model.proofs.Moving.{not_both, Good}
 use Rattle.session_model.proofs.Freshness.{reader_fresh, reader_fresh_sources}
-use Rattle.session_model.proofs.WhatIsAsked.{every_all}
+use Rattle.session_model.proofs.WhatIsAsked.{every_all, if_true}
 use Rattle.session_model.proofs.Quiet.{Follows, quiet_evaluation}
-use Rattle.session_model.proofs.Running.{no_expression, output_run}
+use Rattle.session_model.proofs.Running.{no_expression, run_is, visits_good, output_run}
+use Rattle.session_model.proofs.Observed.{term_is}
 use Rattle.session_model.proofs.Right.{output_same, right_change, right_first}
-use Rattle.session_model.proofs.Journeys.{next_waits, right_run, right_flush, journal_well, settled_fresh}
+use Rattle.session_model.proofs.Journeys.{some_is, moved_on, get_some, next_waits, right_run, right_flush, journal_well, settled_fresh}
+
+zero_front : (n : ℕ) → 0 + n ≡ n
+zero_front n = omega arith
+
+at_zero : (m : ℕ) → m ≡ m + 0
+at_zero m = omega arith
 
 -- each reader is covered, also those that there are not
 sound_at : (app : Shape) (k n : ℕ) → n < k → is_sound_below app k ≡ true → is_covered app n ≡ true
@@ -187,3 +197,79 @@ module _ (app : Shape) (proper : IsProper app) (values others : CurrentValues) (
 
 pub depends_on_reads_alone : DependsOnReadsAlone
 depends_on_reads_alone app p values others isolated n h = depends_by app p values others isolated n (reader app n) refl h
+
+-- ---- runs by their traces
+
+pub expression_is_by_trace : ExpressionIsByTrace
+expression_is_by_trace app p state right n i is x dead =
+    let own : bound_of app n i ≡ n = if_true (is_expression i) n (length (readers app)) x in
+    run_is app (orderly app p) n i is (ap (λ b. b || is_output i) x) (covered app p n) (visit_below app n)
+    (subst (λ b. Good app b (visit_below app n)) (sym own) (visits_good app (orderly app p) (covered app p) n)) state right.sound dead
+
+pub term_is_by_trace : TermIsByTrace
+term_is_by_trace app p state right t n numbered low = term_is app (orderly app p) (covered app p) state right t n numbered low
+
+-- ---- sessions that keep outcomes
+
+consistent : (app : Shape) → IsProper app → (state : SessionState) → IsRight app state → IsConsistent app state
+consistent app p state right = record {
+  sources = λ n i is e a. alive_depends_on_reads app p state right n i is e a;
+  closed = λ n i is e a. subst (λ (x : Evaluation). EveryRead (IsAliveRead state) x.asked) (sym (reader_fresh app (orderly app p) state right.sound n i is e a)) (right.sound.at n i is e a).closed;
+}
+
+pub journal_is_consistent : JournalIsConsistent
+journal_is_consistent app p journal = consistent app p (state_after app journal) (journal_is_right app p journal)
+
+kept_there : (app : Shape) (state : SessionState) (m : ℕ) (rs : List ReaderState) (n : ℕ) (r : ReaderState) → slice_get rs n ≡ Some r → slice_get (kept_from app state m rs) n ≡ Some (record { state = r; outcome = fresh_outcome app state.values (isolated_of state) (m + n) })
+kept_there app state m [] n r h = cc
+kept_there app state m (q ∷ rs) zero r h = (λ j. Some (record { state = (some_is h) j; outcome = fresh_outcome app state.values (isolated_of state) (at_zero m j) }))
+kept_there app state m (q ∷ rs) (suc n) r h = kept_there app state (suc m) rs n r h ∙ ap (λ k. Some (record { state = r; outcome = fresh_outcome app state.values (isolated_of state) k })) (moved_on m n)
+
+none_kept : (app : Shape) (state : SessionState) (m : ℕ) (rs : List ReaderState) (n : ℕ) → slice_get rs n ≡ None → slice_get (kept_from app state m rs) n ≡ None
+none_kept app state m [] n h = refl
+none_kept app state m (q ∷ rs) zero h = cc
+none_kept app state m (q ∷ rs) (suc n) h = none_kept app state (suc m) rs n h
+
+kept_by_get : (app : Shape) (state : SessionState) (n : ℕ) (o : Option ReaderState) → slice_get state.readers n ≡ o → (kept_reader (keeping_all app state) n).state ≡ reader_state state n
+kept_by_get app state n None h = ap (λ x. (unwrap_or x first_kept).state) (none_kept app state 0 state.readers n h) ∙ sym (ap (λ x. unwrap_or x first_reader) h)
+kept_by_get app state n (Some r) h = ap (λ x. (unwrap_or x first_kept).state) (kept_there app state 0 state.readers n r h) ∙ sym (ap (λ x. unwrap_or x first_reader) h)
+
+-- the session that keeps all has what the state has
+kept_state : (app : Shape) (state : SessionState) (n : ℕ) → (kept_reader (keeping_all app state) n).state ≡ reader_state state n
+kept_state app state n = kept_by_get app state n (slice_get state.readers n) refl
+
+kept_outcome : (app : Shape) (state : SessionState) (n : ℕ) → n < length state.readers → (kept_reader (keeping_all app state) n).outcome ≡ fresh_outcome app state.values (isolated_of state) n
+kept_outcome app state n h =
+    let r = get_some state.readers n h in
+    ap (λ x. (unwrap_or x first_kept).outcome) (kept_there app state 0 state.readers n r.0 r.1) ∙ ap (fresh_outcome app state.values (isolated_of state)) (zero_front n)
+
+pub keeping_all_stands : KeepingAllStands
+keeping_all_stands app p state right = record {
+  values = refl;
+  boards = refl;
+  isolated = λ n. ap (λ (r : ReaderState). r.isolated) (kept_state app state n);
+  shown = λ n. ap (λ (r : ReaderState). r.shown) (kept_state app state n);
+  last = λ n. ap (λ (r : ReaderState). r.last) (kept_state app state n);
+  consistent = consistent app p state right;
+  right = λ n a. record {
+    alive = ap is_alive (sym (kept_state app state n)) ∙ a;
+    dependencies = ap (λ (r : ReaderState). r.dependencies) (kept_state app state n);
+    outcome = λ i is e. kept_outcome app state n (let inside = get_in (readers app) n i is in let size = right.sound.size in omega (inside, size, arith));
+  };
+  ran = λ n h. ap has_run (sym (kept_state app state n)) ∙ h;
+  keeps = λ n a. inl (ap is_alive (kept_state app state n) ∙ a);
+  has = λ n h. inl (ap has_run (kept_state app state n) ∙ h);
+}
+
+none_missing : (app : Shape) (state : SessionState) (n : ℕ) → missing_below app (keeping_all app state) state n ≡ 0
+none_missing app state zero = refl
+none_missing app state (suc n) =
+    (λ j. none_missing app state n j + (if is_alive (reader_state state n) && not (is_alive (kept_state app state n j)) then node_count (reader app n) (fresh_answers app state n) else 0))
+    ∙ ap (λ b. 0 + (if b then node_count (reader app n) (fresh_answers app state n) else 0)) (never (is_alive (reader_state state n)))
+  where
+    never : (b : Bool) → (b && not b) ≡ false
+    never true = refl
+    never false = refl
+
+pub none_is_missing : NoneIsMissing
+none_is_missing app state = none_missing app state (length (readers app))

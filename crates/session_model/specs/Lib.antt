@@ -24,6 +24,7 @@ pub mod AskedLaws
 pub mod Orderly
 pub mod Now
 pub mod Sound
+pub mod Standing
 pub mod RightLaws
 pub mod AppLaws
 pub mod Apart

@@ -1,21 +1,24 @@
 -- What is expected of the states that a session comes to, of each app that a text can give, that no check refuses and
 -- whose cached readers are covered.
-use Rattle.std.specs.Prelude.{◌≡◌, ⊤, ℕ, Bool, true, false, List, [], Option, Some, None}
+use Rattle.std.specs.Prelude.{◌≡◌, ℕ, true, false, List, [], length, Some, None}
 use Rattle.rx_value.specs.declared.source.SourceValue.{SourceValue}
 use Rattle.app_tree.specs.Tree.{Tree, Node, Shape}
-use Rattle.app_tree.specs.Numbering.{readers, reader, is_output}
+use Rattle.app_tree.specs.Numbering.{readers, reader, is_expression, is_output}
 use Rattle.app_tree.specs.Current.{CurrentValues, value_at}
-use Rattle.app_tree.specs.Cover.{is_sound}
+use Rattle.app_tree.specs.Cover.{is_sound, reads_in}
 use Rattle.app_tree.specs.Fresh.{IsolatedOutcomes, fresh_outcome, sources_read}
 use Rattle.app_tree.specs.WellFormed.{IsWellFormed}
 use Rattle.session_model.specs.declared.event.Event.{Event}
 use Rattle.session_model.specs.State.{SessionState, first_state, isolated_of, reader_state, sources_in, is_alive}
 use Rattle.session_model.specs.Change.{change}
-use Rattle.session_model.specs.Run.{visit_expression, run_reader}
+use Rattle.session_model.specs.Run.{passing, run_with, visit_below, visit_expression, run_reader}
+use Rattle.session_model.specs.Reading.{read_term}
+use Rattle.session_model.specs.Orderly.{ReadsBelow, IsNumbered}
+use Rattle.session_model.specs.Standing.{IsConsistent, StandsForState, missing_readers, keeping_all}
 use Rattle.session_model.specs.Flush.{is_wanted, next_waiting, make_run, flush}
 use Rattle.session_model.specs.Alone.{Course, course_of, ending, state_after}
 use Rattle.session_model.specs.AskedLaws.{Every}
-use Rattle.session_model.specs.Now.{known_now, evaluation_now, run_by_trace}
+use Rattle.session_model.specs.Now.{known_now, evaluation_now, run_by_trace, read_by_trace}
 use Rattle.session_model.specs.Sound.{is_evaluated, IsRight}
 
 -- an app of which all this is said
@@ -88,3 +91,30 @@ DependsOnReadsAlone =
     (app : Shape) → IsProper app → (values others : CurrentValues) (isolated : IsolatedOutcomes) (n : ℕ)
     → Every (λ s. value_at values s ≡ value_at others s) (sources_read app values isolated n)
     → fresh_outcome app others isolated n ≡ fresh_outcome app values isolated n
+
+-- ---- runs by their traces, within a flush
+
+-- the run of an expression that isn't alive, as it is read
+abbrev pub ExpressionIsByTrace : Type 0
+ExpressionIsByTrace =
+    (app : Shape) → IsProper app → (state : SessionState) → IsRight app state → (n : ℕ) (i : Node) → reader app n ≡ Some i → is_expression i ≡ true → is_alive (reader_state state n) ≡ false
+    → run_with app (visit_below app n) n state ≡ run_by_trace app (visit_below app n) n state
+
+-- a term of an observer, whose reads are of expressions and whose sites are numbered
+abbrev pub TermIsByTrace : Type 0
+TermIsByTrace =
+    (app : Shape) → IsProper app → (state : SessionState) → IsRight app state → (t : Tree) (n : ℕ) → IsNumbered n t → Every (ReadsBelow app (length (readers app))) (reads_in t)
+    → read_term app (passing (visit_expression app)) t [] state ≡ read_by_trace app (passing (visit_expression app)) t state
+
+-- ---- sessions that keep outcomes
+
+-- what each journal leaves is consistent
+abbrev pub JournalIsConsistent : Type 0
+JournalIsConsistent = (app : Shape) → IsProper app → (journal : List Event) → IsConsistent app (state_after app journal)
+
+-- and the session that keeps all stands for it, with no reader missing
+abbrev pub KeepingAllStands : Type 0
+KeepingAllStands = (app : Shape) → IsProper app → (state : SessionState) → IsRight app state → StandsForState app (keeping_all app state) state
+
+abbrev pub NoneIsMissing : Type 0
+NoneIsMissing = (app : Shape) (state : SessionState) → missing_readers app (keeping_all app state) state ≡ 0

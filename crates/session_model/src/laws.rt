@@ -3,6 +3,7 @@
 ghost use Rattle.session_model.specs.Apart.{LinesInterleave, TranscriptsInterleave};
 ghost use Rattle.session_model.specs.AppLaws.{WellFormedIsOrderly};
 ghost use Rattle.session_model.specs.AskedLaws.{EqualAnswersGiveEqual};
+ghost use Rattle.session_model.specs.RightLaws.{FirstIsRight, ChangeKeepsRight, RunKeepsRight, FlushKeepsRight, JournalIsRight, AliveIsFresh, AliveDependsOnReads, RunIsByTrace, RunLeavesNow, WantedIsFresh, ShownIsFresh, DependsOnReadsAlone, ExpressionIsByTrace, TermIsByTrace, JournalIsConsistent, KeepingAllStands, NoneIsMissing};
 ghost use Rattle.session_model.specs.Laws.{EqualValueChangesNothing, DoneIsSettled, IsWithinBudget, AnswersGoOn, OverStays, OverIsSilent};
 
 /// Setting a source to the value that it has changes nothing.
@@ -45,4 +46,41 @@ pub fn app_laws()
 pub fn transcript_laws()
     ensures lines { LinesInterleave }
     ensures transcripts { TranscriptsInterleave }
+{}
+
+/// What a session keeps is right: each expression or output that is alive depends on what it reaches now, all that it
+/// reads is alive, and each such output has last come to what it gives now. So it is at first, and each change, each run
+/// of a flush, each flush and each journal leave it so.
+pub fn state_laws()
+    ensures first { FirstIsRight }
+    ensures change { ChangeKeepsRight }
+    ensures run { RunKeepsRight }
+    ensures flush { FlushKeepsRight }
+    ensures journal { JournalIsRight }
+{}
+
+/// What is alive gives what it comes to afresh and depends on what it reads; each output that is shown has last come to
+/// its fresh outcome where nobody waits; and an outcome depends on the sources that are read alone.
+pub fn freshness_laws()
+    ensures alive { AliveIsFresh }
+    ensures dependencies { AliveDependsOnReads }
+    ensures wanted { WantedIsFresh }
+    ensures shown { ShownIsFresh }
+    ensures reads { DependsOnReadsAlone }
+{}
+
+/// A run as it is stated, with the state handed on from read to read, is the run by its trace: one evaluation on what
+/// every reader gives now, and a walk through what it asks. It leaves what every expression gives now as it is.
+pub fn run_laws()
+    ensures output { RunIsByTrace }
+    ensures expression { ExpressionIsByTrace }
+    ensures term { TermIsByTrace }
+    ensures now { RunLeavesNow }
+{}
+
+/// Each journal leaves a consistent state, and the session that keeps each reader's outcome stands for it.
+pub fn standing_laws()
+    ensures consistent { JournalIsConsistent }
+    ensures stands { KeepingAllStands }
+    ensures missing { NoneIsMissing }
 {}

@@ -16,5 +16,8 @@ pub use examples::{
     refuses_a_line, replays_a_transcript, shows_a_changed_input, shows_an_empty_app,
     shows_an_equal_input,
 };
-pub use laws::{app_laws, change_laws, evaluation_laws, flush_laws, journal_laws, transcript_laws};
+pub use laws::{
+    app_laws, change_laws, evaluation_laws, flush_laws, freshness_laws, journal_laws, run_laws,
+    standing_laws, state_laws, transcript_laws,
+};
 pub use state::{Dependencies, ReaderState};
