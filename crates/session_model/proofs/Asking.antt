@@ -1,12 +1,10 @@
 -- A fact of each evaluation, from the facts of its parts: one induction over terms for all of them.
-use Rattle.std.proofs.Common.{◌≡◌, ◌≤◌, ◌<◌, ℕ, zero, suc, ◌+◌, ℤ, Bool, true, false, List, [], ◌∷◌, ◌++◌, Option, Some, None, refl, sym, ap, ◌∙◌, subst, arith}
-use Rattle.std.specs.Prelude.{slice_get, unwrap_or, not, ◌&&◌, if◌then◌else◌, ⊤}
+use Rattle.std.proofs.Common.{◌≡◌, ◌≤◌, ◌<◌, ℕ, suc, ◌+◌, ℤ, Bool, true, false, List, [], ◌∷◌, ◌++◌, Option, Some, None, refl, sym, subst, arith}
+use Rattle.std.specs.Prelude.{not, ◌&&◌, if◌then◌else◌}
 use Rattle.rx_value.specs.declared.value.Value.{Value}
 use Rattle.rx_value.specs.declared.value.Value.TheVariants as v
 use Rattle.rx_value.specs.declared.outcome.Outcome.{Outcome}
 use Rattle.rx_value.specs.declared.outcome.Outcome.TheVariants as outcome
-use Rattle.rx_value.specs.declared.failure.Failure.TheVariants.{WrongKind, NotACondition}
-use Rattle.rx_value.specs.Failure.{failed}
 use Rattle.rx_value.specs.Numbers.{numbers_of}
 use Rattle.rx_value.specs.Operators.{unary_result, binary_result}
 use Rattle.rx_value.specs.Functions.{is_null}
@@ -15,7 +13,7 @@ use Rattle.app_tree.specs.declared.term.Operator.{Operator}
 use Rattle.app_tree.specs.declared.term.Operator.TheVariants as operator
 use Rattle.app_tree.specs.declared.item.Flags.{Flags}
 use Rattle.app_tree.specs.Tree.{Tree, constant, group, get, variable, isolate, stop, require, fold, unary, binary, choice, call, Trees, no_trees, tree, Node, input, value, task, reactive, event, text, plot, observe, on}
-use Rattle.app_tree.specs.Evaluate.{Answers, Asked, reads, given, enters, leaves, Evaluation, Meaning, plain, read_of, after, then_by, then_with, wanted_bool, decided_by, operated, chosen_by, called, stopped, required, over_each, over_list, at_site, evaluate, evaluate_all, site_count, site_count_all}
+use Rattle.app_tree.specs.Evaluate.{Answers, given, enters, leaves, Evaluation, Meaning, plain, read_of, after, then_by, then_with, wanted_bool, decided_by, operated, chosen_by, called, stopped, required, over_each, over_list, at_site, evaluate, evaluate_all, site_count, site_count_all}
 use Rattle.app_tree.specs.Cover.{reads_in, reads_in_all}
 use Rattle.app_tree.specs.Fresh.{without_reads, rendered, cached, event_body, evaluate_node}
 use Rattle.session_model.specs.AskedLaws.{Every}

@@ -1,36 +1,34 @@
 -- A change keeps that the state is sound: who stays alive reaches none of what changed.
-use Rattle.std.proofs.Common.{◌≡◌, ◌≢◌, inl, inr, ◌≤◌, ◌<◌, ℕ, zero, suc, ◌+◌, Bool, true, false, List, [], ◌∷◌, ◌++◌, length, map, Option, Some, None, refl, sym, ap, ◌∙◌, subst, arith}
-use Rattle.std.specs.Prelude.{⊤, not, ◌==◌, ◌||◌, slice_get, slice_set, unwrap_or, option_map, if◌then◌else◌}
+use Rattle.std.proofs.Common.{◌≡◌, ◌≢◌, inl, inr, ℕ, zero, suc, Bool, true, false, List, [], ◌∷◌, length, map, Option, Some, None, refl, sym, ap, ◌∙◌, subst}
+use Rattle.std.specs.Prelude.{not, ◌==◌, ◌||◌, slice_get, slice_set, unwrap_or, if◌then◌else◌}
 use Rattle.std.specs.List.{list_any}
 use Rattle.std.proofs.lemmas.Bool.{false≢true}
 use Rattle.std.proofs.lemmas.Bool.Decides.{eqb_tells}
-use Rattle.rx_value.specs.declared.outcome.Outcome.{Outcome}
 use Rattle.rx_value.specs.declared.source.SourceValue.{SourceValue}
 use Rattle.rx_value.specs.declared.source.SourceValue.TheVariants as source
 use Rattle.rx_value.specs.declared.value.Value.TheVariants.{Null}
-use Rattle.rx_value.specs.Value.{source_eq}
 use Rattle.app_tree.specs.declared.term.Read.{Read}
 use Rattle.app_tree.specs.declared.term.Read.TheVariants as read
 use Rattle.app_tree.specs.Tree.{Node, Shape}
-use Rattle.app_tree.specs.Numbering.{readers, reader, is_expression, is_output}
-use Rattle.app_tree.specs.Current.{CurrentValues, value_at}
-use Rattle.app_tree.specs.Evaluate.{Answers, Asked, Evaluation}
+use Rattle.app_tree.specs.Numbering.{reader, is_expression, is_output}
+use Rattle.app_tree.specs.Current.{value_at}
+use Rattle.app_tree.specs.Evaluate.{Evaluation}
 use Rattle.app_tree.specs.Cover.{is_covered}
-use Rattle.app_tree.specs.Fresh.{Known, known_at, answer_to, sources_of_reads, evaluate_reader, is_expression_at, known_expressions}
+use Rattle.app_tree.specs.Fresh.{Known, known_at, answer_to, sources_of_reads, is_expression_at}
 use Rattle.session_model.specs.declared.state.Dependencies.{Dependencies}
 use Rattle.session_model.specs.declared.state.ReaderState.{ReaderState}
 use Rattle.session_model.specs.State.{SessionState, first_reader, reader_state, sources_in, is_alive}
-use Rattle.session_model.specs.Change.{reaches, marked_dependencies, marked, changed_to, change, thawed, thaw_from, thaw}
+use Rattle.session_model.specs.Change.{reaches, marked_dependencies, marked, changed_to}
 use Rattle.session_model.specs.AskedLaws.{Every}
 use Rattle.session_model.specs.Orderly.{ReadsBelow, bound_of, IsOrderly}
 use Rattle.session_model.specs.Now.{EveryRead, kept_by, now_by, sites_now, known_now, evaluation_now}
 use Rattle.session_model.specs.Sound.{is_evaluated, IsAliveRead, IsSoundAt, IsSound}
-use Rattle.session_model.proofs.WhatIsAsked.{reads_map, reads_zip, IsGiven, if_true, if_false}
+use Rattle.session_model.proofs.WhatIsAsked.{reads_map, reads_zip, IsGiven}
 use Rattle.session_model.proofs.KnownLists.{known_fixed}
 use Rattle.session_model.proofs.Staying.{alive_by, alive_now, asked_low}
 use Rattle.session_model.proofs.Moving.{not_both}
 use Rattle.session_model.proofs.Walking.{expression_of}
-use Rattle.session_model.proofs.Quiet.{IsQuiet, Follows, IsLiveRead, quiet_evaluation, quiet_sources, asked_live}
+use Rattle.session_model.proofs.Quiet.{Follows, IsLiveRead, quiet_evaluation, quiet_sources, asked_live}
 
 map_size : {A B : Type 0} (f : A → B) (xs : List A) → length (map f xs) ≡ length xs
 map_size f [] = refl

@@ -1,20 +1,20 @@
 -- A body that is run behind its keys counts where all keys came to values.
-use Rattle.std.proofs.Common.{◌≡◌, ◌≤◌, ◌<◌, ℕ, zero, suc, ◌+◌, Bool, true, false, List, [], ◌∷◌, ◌++◌, Option, Some, None, refl, sym, ap, ◌∙◌, subst, arith}
+use Rattle.std.proofs.Common.{◌≡◌, ◌≤◌, ◌<◌, ℕ, suc, ◌+◌, List, [], ◌∷◌, ◌++◌, Option, None, refl, sym, ap, ◌∙◌, arith}
 use Rattle.rx_value.specs.declared.value.Value.{Value}
 use Rattle.rx_value.specs.declared.value.Value.TheVariants as v
 use Rattle.rx_value.specs.declared.outcome.Outcome.{Outcome}
 use Rattle.rx_value.specs.declared.outcome.Outcome.TheVariants as outcome
 use Rattle.app_tree.specs.declared.term.Read.{Read}
 use Rattle.app_tree.specs.declared.term.Read.TheVariants as read
-use Rattle.app_tree.specs.Tree.{Tree, Trees, no_trees, tree, Shape}
-use Rattle.app_tree.specs.Evaluate.{Answers, Asked, reads, given, enters, leaves, Evaluation, plain, then_by, then_with, evaluate, evaluate_all, site_count, site_count_all}
+use Rattle.app_tree.specs.Tree.{Trees, no_trees, tree, Shape}
+use Rattle.app_tree.specs.Evaluate.{Answers, Asked, reads, given, enters, leaves, Evaluation, plain, then_by, evaluate, evaluate_all, site_count, site_count_all}
 use Rattle.app_tree.specs.Cover.{reads_in, reads_in_all}
 use Rattle.session_model.specs.State.{SessionState}
 use Rattle.session_model.specs.AskedLaws.{Every}
 use Rattle.session_model.specs.Reading.{Reached, Visited, Manner, Reading, followed, go_on_by, go_on, read_term, read_terms}
 use Rattle.session_model.specs.Run.{counted, keeping, passing}
-use Rattle.session_model.specs.Orderly.{IsNumbered, AreNumbered}
-use Rattle.session_model.specs.Now.{one_if_value, stayed, walked, walked_by, then_walked}
+use Rattle.session_model.specs.Orderly.{AreNumbered}
+use Rattle.session_model.specs.Now.{one_if_value, stayed, walked, then_walked}
 use Rattle.session_model.proofs.Agreeing.{front, back}
 use Rattle.session_model.proofs.WhatIsAsked.{IsSiteIn, term_asks}
 use Rattle.session_model.proofs.Threading.{Serves, through, walks_fine, term_through, reached_eq}

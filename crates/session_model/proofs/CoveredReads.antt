@@ -1,25 +1,23 @@
 -- What holds of all that is read outside of sites holds of all that is asked, where each site is answered and the keys of
 -- a cached reader cover its body.
-use Rattle.std.proofs.Common.{◌≡◌, ◌≤◌, ◌<◌, inl, inr, ℕ, zero, suc, ◌+◌, Bool, true, false, List, [], ◌∷◌, ◌++◌, length, Option, Some, None, refl, sym, ap, ◌∙◌, subst, arith}
+use Rattle.std.proofs.Common.{◌≡◌, ℕ, zero, suc, ◌+◌, Bool, true, false, List, [], ◌∷◌, ◌++◌, length, Option, Some, None, refl, sym, ap, subst, arith}
 use Rattle.std.specs.Prelude.{⊤, not, ◌==◌, ◌&&◌, ◌||◌, if◌then◌else◌}
-use Rattle.std.proofs.lemmas.Bool.Decides.{eqb_tells}
 use Rattle.rx_value.specs.declared.value.Value.{Value}
 use Rattle.rx_value.specs.declared.outcome.Outcome.{Outcome}
 use Rattle.rx_value.specs.declared.outcome.Outcome.TheVariants as outcome
 use Rattle.rx_value.specs.Functions.{is_null}
 use Rattle.app_tree.specs.declared.term.Read.{Read}
 use Rattle.app_tree.specs.declared.term.Read.TheVariants as read
-use Rattle.app_tree.specs.declared.item.Flags.{Flags}
 use Rattle.app_tree.specs.Tree.{Tree, constant, group, get, variable, isolate, stop, require, fold, unary, binary, choice, call, Trees, no_trees, tree, Node, input, value, task, reactive, event, text, plot, observe, on, Shape}
 use Rattle.app_tree.specs.Numbering.{readers, reader, is_expression}
-use Rattle.app_tree.specs.Evaluate.{Answers, Asked, Evaluation, Meaning, plain, then_by, then_with, at_site, evaluate, evaluate_all, site_count, site_count_all}
-use Rattle.app_tree.specs.Cover.{read_eq, reads_in, reads_in_all, is_key, is_covered_read, are_covered, is_covered_term, are_covered_terms, is_covered_node, covered_below, Cached, cached_node, is_covered}
+use Rattle.app_tree.specs.Evaluate.{Answers, Evaluation, Meaning, plain, then_by, at_site, evaluate, evaluate_all, site_count, site_count_all}
+use Rattle.app_tree.specs.Cover.{read_eq, reads_in, reads_in_all, is_key, is_covered_read, are_covered, is_covered_term, are_covered_terms, is_covered_node, covered_below, cached_node, is_covered}
 use Rattle.app_tree.specs.Fresh.{without_reads, cached, event_body, evaluate_node}
 use Rattle.session_model.specs.AskedLaws.{Every}
 use Rattle.session_model.specs.Orderly.{IsOrderly, IsNumbered, AreNumbered, IsNumberedNode, reads_in_node}
 use Rattle.session_model.specs.Now.{OfRead, EveryRead}
 use Rattle.session_model.proofs.Agreeing.{front, back}
-use Rattle.session_model.proofs.Asking.{bare_numbered, term_has}
+use Rattle.session_model.proofs.Asking.{term_has}
 use Rattle.session_model.proofs.WhatIsAsked.{both_of, term_asks, IsAnyRead, any_reads, IsGiven, IsWhole, is_whole}
 use Rattle.session_model.proofs.Covering.{and_left, and_right, eq_means, IsCoveredBody, covered_body}
 

@@ -1,11 +1,11 @@
 -- A covered body has no isolated site.
-use Rattle.std.proofs.Common.{◌≡◌, ℕ, Bool, true, false, Option, Some, None, refl, sym, ap, ◌∙◌, inl, inr}
+use Rattle.std.proofs.Common.{◌≡◌, ℕ, Bool, true, false, Option, Some, refl, sym, ap, ◌∙◌, inl, inr}
 use Rattle.std.specs.Prelude.{◌==◌, ◌&&◌, length}
 use Rattle.std.proofs.lemmas.Bool.Decides.{eqb_tells}
-use Rattle.app_tree.specs.Tree.{Tree, Trees, no_trees, tree, Node, reactive, event, text, plot, Shape}
+use Rattle.app_tree.specs.Tree.{Tree, Trees, tree, Node, Shape}
 use Rattle.app_tree.specs.Numbering.{readers, reader}
 use Rattle.app_tree.specs.Evaluate.{site_count}
-use Rattle.app_tree.specs.Cover.{reads_in, are_covered, is_covered_term, covered_below, Cached, cached_node, is_covered_by, is_covered}
+use Rattle.app_tree.specs.Cover.{reads_in, are_covered, covered_below, cached_node, is_covered_by, is_covered}
 
 pub and_left : (a b : Bool) → (a && b) ≡ true → a ≡ true
 and_left true b h = refl

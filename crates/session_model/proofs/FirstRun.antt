@@ -1,16 +1,10 @@
 -- The sites of a reader as it runs: none is answered, but for the body of an event that ignores its first run.
-use Rattle.std.proofs.Common.{◌≡◌, ◌≢◌, ◌<◌, ℕ, suc, ◌+◌, Bool, true, false, List, Option, Some, None, refl, sym, ap, ◌∙◌, subst, arith}
-use Rattle.std.specs.Prelude.{not, ◌&&◌, ◌==◌, if◌then◌else◌}
-use Rattle.rx_value.specs.declared.outcome.Outcome.{Outcome}
+use Rattle.std.proofs.Common.{◌≡◌, ◌≢◌, ℕ, true, false, Some, None}
+use Rattle.std.specs.Prelude.{◌==◌}
 use Rattle.rx_value.specs.declared.outcome.Outcome.TheVariants as o
-use Rattle.app_tree.specs.declared.item.Flags.{Flags}
-use Rattle.app_tree.specs.Tree.{Tree, Node, event, Shape}
+use Rattle.app_tree.specs.Tree.{Shape}
 use Rattle.app_tree.specs.Numbering.{reader}
-use Rattle.app_tree.specs.Evaluate.{site_count}
 use Rattle.app_tree.specs.Fresh.{ignored_site, first_sites}
-use Rattle.session_model.specs.declared.state.ReaderState.{ReaderState}
-use Rattle.session_model.specs.State.{has_run}
-use Rattle.session_model.specs.Now.{open_by}
 use Rattle.session_model.proofs.WhatIsAsked.{eq_apart, eq_self}
 
 pub none_ignored : (app : Shape) (n : ℕ) → ignored_site (reader app n) ≡ None → (s : ℕ) → first_sites app n s ≡ None

@@ -1,20 +1,19 @@
 -- In a sound state what an alive reader gives now is what it comes to afresh.
-use Rattle.std.proofs.Common.{◌≡◌, ◌≢◌, ◌≤◌, ◌<◌, ℕ, zero, suc, ◌+◌, Bool, true, false, List, [], ◌∷◌, ◌++◌, length, Option, Some, None, refl, sym, ap, ◌∙◌, subst, arith}
-use Rattle.std.specs.Prelude.{⊤, ◌||◌}
-use Rattle.rx_value.specs.declared.outcome.Outcome.{Outcome}
+use Rattle.std.proofs.Common.{◌≡◌, ◌<◌, ℕ, zero, suc, true, List, [], length, Option, Some, None, refl, sym, ap, ◌∙◌, subst, arith}
+use Rattle.std.specs.Prelude.{◌||◌}
 use Rattle.app_tree.specs.declared.term.Read.{Read}
 use Rattle.app_tree.specs.declared.term.Read.TheVariants as read
 use Rattle.app_tree.specs.Tree.{Node, Shape}
 use Rattle.app_tree.specs.Numbering.{readers, reader, is_expression, is_output}
-use Rattle.app_tree.specs.Evaluate.{Answers, Asked, Evaluation}
-use Rattle.app_tree.specs.Fresh.{Known, known_at, answer_to, sources_of_read, sources_of_reads, evaluate_node, evaluate_reader, known_by, is_expression_at, known_expressions, kept_sites, fresh_evaluation, fresh_outcome, sources_read}
+use Rattle.app_tree.specs.Evaluate.{Answers, Evaluation}
+use Rattle.app_tree.specs.Fresh.{Known, known_at, answer_to, sources_of_read, sources_of_reads, evaluate_node, is_expression_at, known_expressions, kept_sites, fresh_evaluation, fresh_outcome, sources_read}
 use Rattle.session_model.specs.State.{SessionState, isolated_of, reader_state, is_alive}
 use Rattle.session_model.specs.AskedLaws.{Every}
-use Rattle.session_model.specs.Orderly.{ReadsBelow, bound_of, IsOrderly, reads_in_node}
-use Rattle.session_model.specs.Now.{EveryRead, kept_by, now_by, sites_now, known_now, evaluation_now}
+use Rattle.session_model.specs.Orderly.{ReadsBelow, bound_of, IsOrderly}
+use Rattle.session_model.specs.Now.{EveryRead, sites_now, known_now, evaluation_now}
 use Rattle.session_model.specs.Sound.{is_evaluated, IsAliveRead, IsSoundAt, IsSound}
-use Rattle.session_model.proofs.WhatIsAsked.{every_map, every_zip, reads_map, reads_zip, node_covers, if_true}
-use Rattle.session_model.proofs.KnownLists.{get_in, evaluation_alike, sources_alike, known_fixed}
+use Rattle.session_model.proofs.WhatIsAsked.{reads_zip, node_covers, if_true}
+use Rattle.session_model.proofs.KnownLists.{evaluation_alike, sources_alike, known_fixed}
 use Rattle.session_model.proofs.States.{kept_is}
 use Rattle.session_model.proofs.Staying.{alive_now, asked_low}
 
@@ -87,7 +86,7 @@ module _ (app : Shape) (orderly : IsOrderly app) where
           let own : bound_of app m i ≡ m = if_true (is_expression i) m (length (readers app)) e in
           let at : IsSoundAt app M m = sound.at m i is (ap (λ b. b || is_output i) e) alive in
           let below : (j : ℕ) → j < bound_of app m i → is_expression_at (reader app j) ≡ true → is_alive (reader_state M j) ≡ true → IsFreshAt j =
-              λ j w x a. expression_below k j (omega (h, w, own, arith)) (reader app j) refl x a in
+          λ j w x a. expression_below k j (omega (h, w, own, arith)) (reader app j) refl x a in
           known_fixed app M.values (kept_sites (isolated_of M)) orderly m i is e
           ∙ (λ z. record { outcome = (fresh_evaluated m i is alive at.closed below z).outcome; sources = fresh_sources m i is alive at.closed below z })
           ∙ sym (known_fixed app M.values (sites_now app M) orderly m i is e)

@@ -1,6 +1,6 @@
 -- Each flush, each event and each journal leave what a session keeps right; and where no one waits, each output that is
 -- shown has last come to its fresh outcome.
-use Rattle.std.proofs.Common.{◌≡◌, ◌≢◌, ◌≤◌, ◌<◌, ℕ, zero, suc, ◌+◌, Bool, true, false, List, [], ◌∷◌, ◌++◌, length, Option, Some, None, refl, sym, ap, ◌∙◌, subst, arith}
+use Rattle.std.proofs.Common.{◌≡◌, ◌<◌, ℕ, zero, suc, ◌+◌, Bool, true, false, List, [], ◌∷◌, ◌++◌, length, Option, Some, None, refl, sym, ap, ◌∙◌, subst, arith}
 use Rattle.std.proofs.lemmas.Bool.{false≢true}
 use Rattle.std.specs.Prelude.{⊤, not, ◌&&◌, ◌||◌, slice_get, unwrap_or, option_map, int_lt, if◌then◌else◌}
 use Rattle.rx_value.specs.declared.value.Value.{Value}
@@ -12,10 +12,10 @@ use Rattle.shiny_json.specs.declared.message.Client.{Client}
 use Rattle.shiny_json.specs.declared.message.Client.TheVariants.{Init, Update, Refused}
 use Rattle.shiny_json.specs.Client.{client_message}
 use Rattle.app_tree.specs.Tree.{Node, input, value, task, reactive, event, text, plot, observe, on, Shape}
-use Rattle.app_tree.specs.Numbering.{readers, reader, is_expression, is_output, is_observer, width_source, height_source}
+use Rattle.app_tree.specs.Numbering.{readers, reader, is_output, is_observer, width_source, height_source}
 use Rattle.app_tree.specs.Evaluate.{Evaluation}
 use Rattle.app_tree.specs.Cover.{is_covered}
-use Rattle.app_tree.specs.Fresh.{is_expression_at, fresh_outcome}
+use Rattle.app_tree.specs.Fresh.{fresh_outcome}
 use Rattle.task_board.specs.declared.job.Invocation.{Invocation}
 use Rattle.task_board.specs.declared.job.Ended.{Ended}
 use Rattle.task_board.specs.declared.job.Ended.TheVariants.{Next, Quiet, Stale}
@@ -25,13 +25,12 @@ use Rattle.session_model.specs.declared.event.Event.TheVariants.{Text, Other, Ta
 use Rattle.session_model.specs.declared.state.ReaderState.{ReaderState}
 use Rattle.session_model.specs.State.{SessionState, first_reader, first_state, isolated_of, reader_state, is_alive}
 use Rattle.session_model.specs.Change.{thaw}
-use Rattle.session_model.specs.Tasks.{first_task, task_outcome, ended_view, see_task, with_board, shown_after, end_running, end_task, is_running}
+use Rattle.session_model.specs.Tasks.{first_task, task_outcome, ended_view, see_task, shown_after, end_running, end_task, is_running}
 use Rattle.session_model.specs.Flush.{is_wanted, is_waiting, Waiting, first_of, and_later, priority_of, waiting_from, next_waiting, Run, Made, is_observer_at, make_by, make_run, FlushEnd, done, budget_spent, observer_failed, Flushed, failure_of, after_failure, flush_step, flush_from, flush}
 use Rattle.session_model.specs.Apply.{Target, width, height, hidden, target_of, is_shown_by, with_shown, apply_to, apply_pair, apply_pairs}
 use Rattle.session_model.specs.Apply as target
-use Rattle.session_model.specs.Alone.{Ending, Course, first_course, Effect, flushes, refuses, ends, nothing, applied, message_effect, task_effect, event_effect, effect_from, effect, flush_ending, items_after, course_after, after_event, course_from, course_of, ending, state_after}
+use Rattle.session_model.specs.Alone.{Ending, Course, first_course, Effect, flushes, refuses, ends, nothing, applied, message_effect, task_effect, event_effect, effect_from, effect, flush_ending, items_after, course_after, after_event, course_from, course_of}
 use Rattle.session_model.specs.Orderly.{IsOrderly}
-use Rattle.session_model.specs.Now.{evaluation_now}
 use Rattle.session_model.specs.Sound.{is_evaluated, IsRight}
 use Rattle.session_model.proofs.Expected.{settled, nobody_waits}
 use Rattle.session_model.proofs.KnownLists.{get_in}

@@ -1,23 +1,21 @@
 -- A run that is kept changes nothing of what any reader gives now.
-use Rattle.std.proofs.Common.{◌≡◌, ◌≢◌, inl, inr, ◌≤◌, ◌<◌, ℕ, zero, suc, ◌+◌, Bool, true, false, List, [], ◌∷◌, ◌++◌, length, Option, Some, None, refl, sym, ap, ◌∙◌, subst, arith}
-use Rattle.std.specs.Prelude.{⊤, ◌==◌}
+use Rattle.std.proofs.Common.{◌≡◌, ◌≢◌, inl, inr, ◌<◌, ℕ, true, false, List, [], length, Option, Some, refl, sym, ap, ◌∙◌, subst, arith}
+use Rattle.std.specs.Prelude.{⊤}
 use Rattle.std.proofs.lemmas.Bool.Decides.{eqb_tells}
 use Rattle.rx_value.specs.declared.outcome.Outcome.{Outcome}
 use Rattle.app_tree.specs.declared.term.Read.{Read}
 use Rattle.app_tree.specs.Tree.{Node, Shape}
 use Rattle.app_tree.specs.Numbering.{readers, reader, is_expression}
 use Rattle.app_tree.specs.Evaluate.{Answers, Asked, reads, given, enters, leaves, Evaluation}
-use Rattle.app_tree.specs.Fresh.{Known, known_at, answer_to, sources_of_reads, evaluate_node, evaluate_reader, known_by, is_expression_at, known_below, known_expressions}
-use Rattle.session_model.specs.declared.state.ReaderState.{ReaderState}
+use Rattle.app_tree.specs.Fresh.{Known, known_at, answer_to, sources_of_reads, evaluate_node, known_by, is_expression_at, known_below}
 use Rattle.session_model.specs.State.{SessionState, reader_state, is_alive}
 use Rattle.session_model.specs.AskedLaws.{Every}
-use Rattle.session_model.specs.Orderly.{ReadsBelow, bound_of, IsOrderly, reads_in_node}
-use Rattle.session_model.specs.Now.{OfRead, EveryRead, recorded, kept_by, open_by, now_by, open_sites, sites_now, known_now, evaluation_now, trace, open_answers}
-use Rattle.session_model.specs.Sound.{is_evaluated, IsAliveRead, IsSoundAt, IsSound}
-use Rattle.session_model.proofs.Repeating.{Again, IsKept, IsAlikeRead, node_repeats}
+use Rattle.session_model.specs.Orderly.{ReadsBelow, IsOrderly, reads_in_node}
+use Rattle.session_model.specs.Now.{OfRead, EveryRead, recorded, kept_by, open_sites, sites_now, known_now, evaluation_now, trace, open_answers}
+use Rattle.session_model.proofs.Repeating.{Again, IsKept, node_repeats}
 use Rattle.session_model.proofs.WhatIsAsked.{every_map, every_all, reads_map, if_true}
 use Rattle.session_model.proofs.KnownLists.{get_in, known_is, same_evaluation}
-use Rattle.session_model.proofs.Staying.{Alike, alike_now, alive_now, open_now, Same, StaysAt, stays_at, same_by, evaluation_same, KeepsAlive, keeps_asked, sound_at, found, is_kept, kept_again}
+use Rattle.session_model.proofs.Staying.{Alike, alike_now, alive_now, open_now, Same, StaysAt, stays_at, same_by, found, is_kept, kept_again}
 
 pub expression_at : (app : Shape) (n : ℕ) (i : Node) → reader app n ≡ Some i → is_expression_at (reader app n) ≡ is_expression i
 expression_at app n i is = ap is_expression_at is

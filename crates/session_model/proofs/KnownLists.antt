@@ -1,15 +1,15 @@
 -- The list of what the expressions come to: each by its number, from those before it.
-use Rattle.std.proofs.Common.{◌≡◌, ◌≢◌, inl, inr, ◌≤◌, ◌<◌, ℕ, zero, suc, ◌+◌, Bool, true, false, List, [], ◌∷◌, ◌++◌, length, Option, Some, None, refl, sym, ap, ◌∙◌, subst, arith}
-use Rattle.std.specs.Prelude.{⊤, slice_get, unwrap_or, ◌==◌}
+use Rattle.std.proofs.Common.{◌≡◌, inl, inr, ◌<◌, ℕ, zero, suc, Bool, true, false, List, [], ◌∷◌, ◌++◌, length, Option, Some, refl, sym, ap, ◌∙◌, subst, arith}
+use Rattle.std.specs.Prelude.{slice_get, unwrap_or}
 use Rattle.std.proofs.lemmas.Bool.Decides.{eqb_tells}
 use Rattle.rx_value.specs.declared.outcome.Outcome.{Outcome}
 use Rattle.app_tree.specs.declared.term.Read.{Read}
 use Rattle.app_tree.specs.declared.term.Read.TheVariants as read
 use Rattle.app_tree.specs.Tree.{Node, Shape}
 use Rattle.app_tree.specs.Numbering.{readers, reader, is_expression}
-use Rattle.app_tree.specs.Current.{CurrentValues, told}
-use Rattle.app_tree.specs.Evaluate.{Answers, Asked, reads, given, enters, leaves, Evaluation}
-use Rattle.app_tree.specs.Fresh.{Sites, Known, unknown, known_at, answer_to, union, sources_of_read, sources_of_reads, evaluate_node, evaluate_reader, known_by, is_expression_at, known_of, with_known, known_below, known_expressions, evaluation}
+use Rattle.app_tree.specs.Current.{CurrentValues}
+use Rattle.app_tree.specs.Evaluate.{Answers, Asked, reads, given, enters, leaves}
+use Rattle.app_tree.specs.Fresh.{Sites, Known, unknown, known_at, answer_to, union, sources_of_read, sources_of_reads, evaluate_node, evaluate_reader, known_by, is_expression_at, known_of, with_known, known_below, known_expressions}
 use Rattle.session_model.specs.AskedLaws.{Every, IsAnsweredAlike}
 use Rattle.session_model.specs.Orderly.{ReadsBelow, bound_of, IsOrderly, IsNumberedNode, reads_in_node}
 use Rattle.session_model.specs.Now.{OfRead, EveryRead}
@@ -148,7 +148,7 @@ module _ (app : Shape) (values : CurrentValues) (sites : Sites) where
 -- sites that make no difference to any expression
 pub known_same : (app : Shape) (values : CurrentValues) (sites sites' : Sites)
     → ((n : ℕ) → is_expression_at (reader app n) ≡ true
-        → known_by app (known_below app values sites n) (evaluate_reader app values sites' (known_below app values sites n) n) ≡ known_by app (known_below app values sites n) (evaluate_reader app values sites (known_below app values sites n) n))
+    → known_by app (known_below app values sites n) (evaluate_reader app values sites' (known_below app values sites n) n) ≡ known_by app (known_below app values sites n) (evaluate_reader app values sites (known_below app values sites n) n))
     → (k : ℕ) → known_below app values sites' k ≡ known_below app values sites k
 known_same app values sites sites' h zero = refl
 known_same app values sites sites' h (suc k) =

@@ -1,26 +1,19 @@
 -- The states between which a run goes: what expressions give stays, what is alive stays, and so does each reader that
 -- the run may not touch.
-use Rattle.std.proofs.Common.{◌≡◌, ◌≢◌, inl, inr, ◌≤◌, ◌<◌, ℕ, zero, suc, ◌+◌, Bool, true, false, List, [], ◌∷◌, ◌++◌, length, Option, Some, None, refl, sym, ap, ◌∙◌, subst, arith, append_assoc, append-nil}
+use Rattle.std.proofs.Common.{◌≡◌, ◌≢◌, inl, inr, ◌≤◌, ◌<◌, ℕ, Bool, true, false, length, refl, sym, ap, ◌∙◌, subst, arith}
 use Rattle.std.proofs.lemmas.Bool.{false≢true}
-use Rattle.std.specs.Prelude.{⊤, ◌==◌}
 use Rattle.std.proofs.lemmas.Bool.Decides.{eqb_tells}
-use Rattle.rx_value.specs.declared.outcome.Outcome.{Outcome}
-use Rattle.app_tree.specs.declared.term.Read.{Read}
-use Rattle.app_tree.specs.declared.term.Read.TheVariants as read
-use Rattle.app_tree.specs.Tree.{Node, Shape}
-use Rattle.app_tree.specs.Numbering.{readers, reader, is_expression}
-use Rattle.app_tree.specs.Evaluate.{Answers, Asked, reads, given, enters, leaves, Evaluation}
+use Rattle.app_tree.specs.Tree.{Shape}
+use Rattle.app_tree.specs.Numbering.{reader}
 use Rattle.app_tree.specs.Fresh.{is_expression_at}
 use Rattle.session_model.specs.declared.state.ReaderState.{ReaderState}
 use Rattle.session_model.specs.State.{SessionState, reader_state, with_reader, is_alive}
-use Rattle.session_model.specs.AskedLaws.{Every}
-use Rattle.session_model.specs.Reading.{Visited, Manner}
-use Rattle.session_model.specs.Run.{with_isolated}
-use Rattle.session_model.specs.Orderly.{ReadsBelow, IsOrderly}
-use Rattle.session_model.specs.Now.{OfRead, EveryRead, given_outcome, recorded, now_by, sites_now, walked_by, walked}
-use Rattle.session_model.specs.Sound.{is_evaluated, IsAliveRead, IsSoundAt, IsSound}
+use Rattle.session_model.specs.Reading.{Visited}
+use Rattle.session_model.specs.Orderly.{IsOrderly}
+use Rattle.session_model.specs.Now.{now_by}
+use Rattle.session_model.specs.Sound.{IsSound}
 use Rattle.session_model.proofs.States.{state_here, state_there, state_size}
-use Rattle.session_model.proofs.Staying.{Alike, alike_eq, alike_now, alive_by, dead_now, Same, same_refl, same_trans, StaysAt, stays_at, same_by, KeepsAlive, sound_stays}
+use Rattle.session_model.proofs.Staying.{Alike, alike_eq, alive_by, dead_now, Same, same_refl, same_trans, StaysAt, stays_at, same_by, KeepsAlive, sound_stays}
 
 pub not_both : {b : Bool} → b ≡ true → b ≡ false → ⊥
 not_both p q = false≢true (sym q ∙ p)

@@ -1,15 +1,13 @@
 -- Equal answers to what a reader asks give an equal evaluation.
-use Rattle.std.proofs.Common.{◌≡◌, ℕ, Bool, true, false, List, [], ◌∷◌, ◌++◌, Option, Some, None, refl, sym, ap, ◌∙◌, subst}
+use Rattle.std.proofs.Common.{Bool, true, false, [], Option, Some, None, refl, ap}
 use Rattle.std.specs.Prelude.{not, ◌&&◌, if◌then◌else◌}
 use Rattle.rx_value.specs.declared.value.Value.{Value}
-use Rattle.rx_value.specs.declared.outcome.Outcome.{Outcome}
 use Rattle.rx_value.specs.declared.outcome.Outcome.TheVariants as outcome
 use Rattle.rx_value.specs.Functions.{is_null}
 use Rattle.app_tree.specs.declared.item.Flags.{Flags}
 use Rattle.app_tree.specs.Tree.{Tree, Trees, no_trees, tree, Node, input, value, task, reactive, event, text, plot, observe, on}
-use Rattle.app_tree.specs.Evaluate.{Answers, Asked, Evaluation, plain, then_with, at_site, evaluate, evaluate_all, site_count}
+use Rattle.app_tree.specs.Evaluate.{Answers, Evaluation, plain, at_site, evaluate, site_count}
 use Rattle.app_tree.specs.Fresh.{without_reads, rendered, cached, event_body, evaluate_node}
-use Rattle.session_model.specs.AskedLaws.{Every, IsAnsweredAlike}
 use Rattle.session_model.proofs.Agreeing.{Agree, then_agree, site_agree, term_agrees, terms_agree}
 
 module _ (a b : Answers) where

@@ -1,17 +1,16 @@
 -- A reader that is evaluated in a session walks through what its trace asks, and counts its body.
-use Rattle.std.proofs.Common.{◌≡◌, ◌≢◌, inl, inr, ◌≤◌, ◌<◌, ℕ, zero, suc, ◌+◌, Bool, true, false, List, [], ◌∷◌, ◌++◌, length, Option, Some, None, refl, sym, ap, ◌∙◌, subst, arith}
-use Rattle.std.specs.Prelude.{⊤, not, is_some, ◌&&◌, ◌==◌, if◌then◌else◌}
+use Rattle.std.proofs.Common.{◌≡◌, ◌≢◌, ◌<◌, ℕ, suc, ◌+◌, Bool, true, false, List, [], ◌++◌, length, Option, Some, None, refl, sym, ap, ◌∙◌, subst, arith}
+use Rattle.std.specs.Prelude.{not, ◌&&◌, if◌then◌else◌}
 use Rattle.rx_value.specs.declared.value.Value.{Value}
-use Rattle.rx_value.specs.declared.value.Value.TheVariants as v
 use Rattle.rx_value.specs.declared.outcome.Outcome.{Outcome}
 use Rattle.rx_value.specs.declared.outcome.Outcome.TheVariants as outcome
 use Rattle.rx_value.specs.Functions.{is_null}
 use Rattle.app_tree.specs.declared.term.Read.{Read}
 use Rattle.app_tree.specs.declared.item.Flags.{Flags}
 use Rattle.app_tree.specs.Tree.{Tree, Trees, no_trees, tree, Node, input, value, task, reactive, event, text, plot, observe, on, Shape}
-use Rattle.app_tree.specs.Numbering.{readers, reader, is_expression}
-use Rattle.app_tree.specs.Evaluate.{Answers, Asked, Evaluation, plain, then_with, at_site, evaluate, evaluate_all, site_count, site_count_all}
-use Rattle.app_tree.specs.Cover.{reads_in, reads_in_all, Cached, cached_node, is_covered}
+use Rattle.app_tree.specs.Numbering.{reader}
+use Rattle.app_tree.specs.Evaluate.{Answers, Evaluation, plain, then_with, at_site, evaluate, site_count, site_count_all}
+use Rattle.app_tree.specs.Cover.{reads_in, reads_in_all, cached_node, is_covered}
 use Rattle.app_tree.specs.Fresh.{ignored_site, first_sites, cached, event_body, evaluate_node}
 use Rattle.app_tree.specs.Fresh as fresh
 use Rattle.session_model.specs.declared.state.ReaderState.{ReaderState}
@@ -22,15 +21,15 @@ use Rattle.session_model.specs.Reading.{Reached, Visited, Manner, Reading, go_on
 use Rattle.session_model.specs.Run as run
 use Rattle.session_model.specs.Run.{choose, keeping, passing, counted, read_cached, read_site, read_event_body, read_node}
 use Rattle.session_model.specs.Orderly.{ReadsBelow, IsOrderly, IsNumbered, AreNumbered, IsNumberedNode, reads_in_node}
-use Rattle.session_model.specs.Now.{EveryRead, given_outcome, open_by, known_now, open_sites, open_answers, one_if_value, keys_count, node_count, stayed, walked}
-use Rattle.session_model.specs.Sound.{is_evaluated, IsSound}
+use Rattle.session_model.specs.Now.{given_outcome, open_by, open_sites, open_answers, keys_count, node_count, walked}
+use Rattle.session_model.specs.Sound.{is_evaluated}
 use Rattle.session_model.proofs.Agreeing.{front, back}
 use Rattle.session_model.proofs.Asking.{bare_numbered}
-use Rattle.session_model.proofs.WhatIsAsked.{term_asks, sites_between, eq_self}
-use Rattle.session_model.proofs.Covering.{IsCoveredBody, covered_body}
+use Rattle.session_model.proofs.WhatIsAsked.{term_asks, sites_between}
+use Rattle.session_model.proofs.Covering.{covered_body}
 use Rattle.session_model.proofs.FirstRun.{none_ignored, one_ignored, others_ignored}
 use Rattle.session_model.proofs.Moving.{Steps, Good}
-use Rattle.session_model.proofs.Walking.{IsMid, answers, keeping_serves, passing_serves}
+use Rattle.session_model.proofs.Walking.{IsMid, keeping_serves, passing_serves}
 use Rattle.session_model.proofs.Threading.{Serves, through, both, site_through, term_through, terms_through, reached_eq}
 use Rattle.session_model.proofs.CountedTerms.{plus, plus_one, counted_terms, walked_bare}
 
@@ -71,9 +70,9 @@ module _ (app : Shape) (orderly : IsOrderly app) (k : ℕ) (visit : ℕ → Sess
       → run.without_reads (read_term app (passing visit) body [] N) ≡ T (fresh.without_reads (evaluate body a [])) N
   covered_through keys body bare low N f =
       let through_it : read_term app (passing visit) body [] N ≡ through app (passing visit) a Low Mid passes (evaluate body a []) N =
-          term_through app (passing visit) a Low Mid passes 0 0 (λ s i j. absurd (omega (j, arith))) body 0 (bare_numbered body 0 bare) low (omega arith) (omega (bare, arith)) [] N f in
+      term_through app (passing visit) a Low Mid passes 0 0 (λ s i j. absurd (omega (j, arith))) body 0 (bare_numbered body 0 bare) low (omega arith) (omega (bare, arith)) [] N f in
       let same : walked (passing visit) a.site (evaluate body a []).asked N ≡ walked (keeping visit n) a.site (evaluate body a []).asked N =
-          walked_bare visit n 0 a.site (evaluate body a []).asked (sites_between a body 0 0 (bare_numbered body 0 bare) (omega (bare, arith)) []) N in
+      walked_bare visit n 0 a.site (evaluate body a []).asked (sites_between a body 0 0 (bare_numbered body 0 bare) (omega (bare, arith)) []) N in
       ap run.without_reads through_it ∙ reached_eq (ap (λ (w : Visited). w.state) same) (ap (λ (w : Visited). w.bodies) same) refl refl
 
   module _ (unanswered : (s : ℕ) → a.site s ≡ None) where

@@ -1,47 +1,43 @@
 -- An observer's run keeps right what a session keeps, and each of its terms comes to its evaluation on what every
 -- reader gives now.
-use Rattle.std.proofs.Common.{◌≡◌, ◌≢◌, ◌≤◌, ◌<◌, ℕ, zero, suc, ◌+◌, ◌-◌, Bool, true, false, List, [], ◌∷◌, ◌++◌, length, Option, Some, None, refl, sym, ap, ◌∙◌, subst, arith}
-use Rattle.std.specs.Prelude.{⊤, not, ◌&&◌, ◌||◌, slice_get}
+use Rattle.std.proofs.Common.{◌≡◌, ℕ, suc, ◌+◌, ◌-◌, Bool, true, false, List, [], ◌∷◌, ◌++◌, length, Option, Some, None, refl, sym, ap, ◌∙◌, subst, arith}
+use Rattle.std.specs.Prelude.{not, ◌&&◌, ◌||◌}
 use Rattle.rx_value.specs.declared.value.Value.{Value}
 use Rattle.rx_value.specs.declared.value.Value.TheVariants as v
 use Rattle.rx_value.specs.declared.outcome.Outcome.{Outcome}
 use Rattle.rx_value.specs.declared.outcome.Outcome.TheVariants as outcome
 use Rattle.rx_value.specs.Functions.{is_null}
-use Rattle.rx_value.specs.declared.source.TaskView.{TaskView}
 use Rattle.rx_value.specs.declared.source.TaskView.TheVariants as view
 use Rattle.rx_value.specs.declared.source.SourceValue.TheVariants.{Plain, Task}
 use Rattle.app_tree.specs.declared.term.Read.{Read}
 use Rattle.app_tree.specs.declared.term.Read.TheVariants as read
-use Rattle.app_tree.specs.declared.item.Flags.{Flags}
 use Rattle.app_tree.specs.Tree.{Tree, Trees, no_trees, tree, Act, set, invoke, update, freeze, perform, branch, branch_else, Acts, no_acts, act, Node, input, value, task, reactive, event, text, plot, observe, on, Shape}
-use Rattle.app_tree.specs.Numbering.{readers, reader, is_expression, is_output, is_observer}
+use Rattle.app_tree.specs.Numbering.{readers, reader}
 use Rattle.app_tree.specs.Current.{value_at, told}
-use Rattle.app_tree.specs.Evaluate.{Answers, Asked, Evaluation, evaluate, site_count, site_count_all}
+use Rattle.app_tree.specs.Evaluate.{Evaluation, evaluate, site_count}
 use Rattle.app_tree.specs.Cover.{reads_in, reads_in_all, is_covered}
-use Rattle.app_tree.specs.Fresh.{known_at, answer_to, is_expression_at, fresh_outcome}
-use Rattle.task_board.specs.declared.job.Invocation.{Invocation}
+use Rattle.app_tree.specs.Fresh.{known_at, answer_to, fresh_outcome}
 use Rattle.task_board.specs.declared.job.Invoked.{Invoked}
 use Rattle.task_board.specs.declared.job.Invoked.TheVariants.{Started, Queued, QueueFull}
 use Rattle.task_board.specs.Board.{AfterInvoke, board_at, invoked}
 use Rattle.session_model.specs.State.{SessionState, isolated_of, reader_state, with_reader, with_sources, has_run}
 use Rattle.session_model.specs.Change.{change, frozen}
 use Rattle.session_model.specs.AskedLaws.{Every}
-use Rattle.session_model.specs.Reading.{Reached, Visited, Manner, read_term}
+use Rattle.session_model.specs.Reading.{Reached, read_term}
 use Rattle.session_model.specs.Run.{choose, passing, visit_expression}
-use Rattle.session_model.specs.Tasks.{first_task, with_board, see_task}
-use Rattle.session_model.specs.Observing.{Acted, sources_reached, more_sources, with_reads, counting, acted, went, then_acted, then_acts_by, then_acts, of_term, with_value_by, with_value, tell_input, after_invoke, invoke_task, choose_block, observed, with_values, do_act, do_acts, do_on, observe_node, run_observer}
-use Rattle.session_model.specs.Orderly.{ReadsBelow, bound_of, IsOrderly, IsNumbered, AreNumbered, act_sites, IsNumberedAct, AreNumberedActs, reads_in_act, reads_in_acts, reads_in_node}
-use Rattle.session_model.specs.Now.{EveryRead, known_now, term_answers, read_by_trace, walked}
-use Rattle.session_model.specs.Sound.{is_evaluated, IsSound, IsRight}
+use Rattle.session_model.specs.Tasks.{first_task, see_task}
+use Rattle.session_model.specs.Observing.{Acted, sources_reached, more_sources, with_reads, counting, acted, went, then_acts_by, with_value_by, with_value, tell_input, after_invoke, invoke_task, choose_block, observed, with_values, do_act, do_acts, do_on, observe_node, run_observer}
+use Rattle.session_model.specs.Orderly.{ReadsBelow, IsOrderly, IsNumbered, AreNumbered, act_sites, IsNumberedAct, AreNumberedActs, reads_in_act, reads_in_acts}
+use Rattle.session_model.specs.Now.{known_now, term_answers, read_by_trace}
+use Rattle.session_model.specs.Sound.{is_evaluated, IsRight}
 use Rattle.session_model.proofs.Agreeing.{front, back}
-use Rattle.session_model.proofs.WhatIsAsked.{term_asks, if_false}
-use Rattle.session_model.proofs.Staying.{same_trans}
+use Rattle.session_model.proofs.WhatIsAsked.{term_asks}
 use Rattle.session_model.proofs.Freshness.{expression_now}
-use Rattle.session_model.proofs.Moving.{Steps, steps_refl, steps_trans, Visits, Good}
+use Rattle.session_model.proofs.Moving.{Steps, steps_refl, steps_trans, Good}
 use Rattle.session_model.proofs.Walking.{expression_of}
-use Rattle.session_model.proofs.Threading.{Serves, IsSourceRead, through, walks_fine, term_through}
+use Rattle.session_model.proofs.Threading.{Serves, IsSourceRead, walks_fine, term_through}
 use Rattle.session_model.proofs.Running.{visits_good}
-use Rattle.session_model.proofs.Right.{observer_alone, right_observer, right_board, right_steps, right_change}
+use Rattle.session_model.proofs.Right.{right_observer, right_board, right_steps, right_change}
 
 module _ (app : Shape) (orderly : IsOrderly app) (covered : (n : ℕ) → is_covered app n ≡ true) where
   abbrev R : ℕ

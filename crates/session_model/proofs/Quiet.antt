@@ -1,21 +1,20 @@
 -- A reader that reaches none of the sources that change comes to the same.
-use Rattle.std.proofs.Common.{◌≡◌, ◌≤◌, ◌<◌, ℕ, zero, suc, ◌+◌, Bool, true, false, List, [], ◌∷◌, ◌++◌, length, Option, Some, None, refl, sym, ap, ◌∙◌, subst, arith}
+use Rattle.std.proofs.Common.{◌≡◌, ◌<◌, ℕ, zero, suc, true, List, [], length, Option, Some, refl, sym, ap, ◌∙◌, subst, arith}
 use Rattle.std.specs.Prelude.{⊤, ◌||◌}
-use Rattle.rx_value.specs.declared.outcome.Outcome.{Outcome}
 use Rattle.app_tree.specs.declared.term.Read.{Read}
 use Rattle.app_tree.specs.declared.term.Read.TheVariants as read
 use Rattle.app_tree.specs.Tree.{Node, Shape}
 use Rattle.app_tree.specs.Numbering.{readers, reader, is_expression, is_output, width_source, height_source}
-use Rattle.app_tree.specs.Current.{CurrentValues, value_at, plain_outcome, status_outcome, result_outcome, told}
-use Rattle.app_tree.specs.Evaluate.{Answers, Asked, Evaluation}
+use Rattle.app_tree.specs.Current.{CurrentValues, value_at, plain_outcome, status_outcome, result_outcome}
+use Rattle.app_tree.specs.Evaluate.{Answers, Evaluation}
 use Rattle.app_tree.specs.Cover.{is_covered}
 use Rattle.app_tree.specs.Fresh.{Sites, Known, known_at, answer_to, sources_of_read, sources_of_reads, evaluate_node, evaluate_reader, known_by, is_expression_at, known_expressions}
 use Rattle.session_model.specs.AskedLaws.{Every}
 use Rattle.session_model.specs.Orderly.{ReadsBelow, bound_of, IsOrderly, reads_in_node}
 use Rattle.session_model.specs.Now.{EveryRead}
 use Rattle.session_model.specs.Sound.{is_evaluated}
-use Rattle.session_model.proofs.WhatIsAsked.{every_map, reads_map, reads_zip, node_asks, node_covers, if_true, IsGiven}
-use Rattle.session_model.proofs.KnownLists.{get_in, evaluation_alike, sources_alike, known_fixed}
+use Rattle.session_model.proofs.WhatIsAsked.{reads_map, reads_zip, node_asks, node_covers, if_true, IsGiven}
+use Rattle.session_model.proofs.KnownLists.{evaluation_alike, sources_alike, known_fixed}
 use Rattle.session_model.proofs.Staying.{asked_low}
 use Rattle.session_model.proofs.Freshness.{outside_of}
 use Rattle.session_model.proofs.Reaching.{reads_each, reads_all}

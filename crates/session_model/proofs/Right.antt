@@ -1,13 +1,11 @@
 -- What keeps right what a session keeps: writes, visits, changes and the runs of outputs.
-use Rattle.std.proofs.Common.{◌≡◌, ◌≢◌, inl, inr, ◌⊎◌, ◌≤◌, ◌<◌, ℕ, zero, suc, ◌+◌, Bool, true, false, List, [], ◌∷◌, length, Option, Some, None, refl, sym, ap, ◌∙◌, subst, arith}
-use Rattle.std.proofs.lemmas.Bool.{false≢true}
+use Rattle.std.proofs.Common.{◌≡◌, ◌≢◌, inl, inr, ◌⊎◌, ◌<◌, ℕ, zero, suc, Bool, true, false, List, [], ◌∷◌, length, Option, Some, None, refl, sym, ap, ◌∙◌, subst, arith}
 use Rattle.std.proofs.lemmas.Bool.Decides.{eqb_tells}
-use Rattle.std.specs.Prelude.{⊤, ◌==◌, ◌||◌, slice_get, slice_set, unwrap_or, if◌then◌else◌}
-use Rattle.rx_value.specs.declared.outcome.Outcome.{Outcome}
+use Rattle.std.specs.Prelude.{◌||◌, slice_get, slice_set, unwrap_or, if◌then◌else◌}
 use Rattle.rx_value.specs.declared.source.SourceValue.{SourceValue}
 use Rattle.rx_value.specs.Value.{source_eq}
 use Rattle.app_tree.specs.Tree.{Node, input, value, task, reactive, event, text, plot, observe, on, Shape}
-use Rattle.app_tree.specs.Numbering.{readers, reader, is_expression, is_output, is_observer}
+use Rattle.app_tree.specs.Numbering.{readers, reader, is_output, is_observer}
 use Rattle.app_tree.specs.Current.{value_at}
 use Rattle.app_tree.specs.Evaluate.{Evaluation}
 use Rattle.app_tree.specs.Cover.{is_covered}
@@ -15,19 +13,19 @@ use Rattle.app_tree.specs.Fresh.{is_expression_at}
 use Rattle.task_board.specs.Board.{TaskBoard}
 use Rattle.session_model.specs.declared.state.ReaderState.{ReaderState}
 use Rattle.session_model.specs.State.{SessionState, first_reader, first_readers, first_state, reader_state, with_reader, is_alive}
-use Rattle.session_model.specs.Change.{marked, changed_to, change, thawed, thaw_from, thaw}
+use Rattle.session_model.specs.Change.{changed_to, change, thawed, thaw_from}
 use Rattle.session_model.specs.Run.{Ran, run_reader}
-use Rattle.session_model.specs.Flush.{with_last, output_made}
+use Rattle.session_model.specs.Flush.{with_last}
 use Rattle.session_model.specs.Tasks.{with_board}
 use Rattle.session_model.specs.Orderly.{IsOrderly}
-use Rattle.session_model.specs.Now.{now_by, sites_now, known_now, evaluation_now}
-use Rattle.session_model.specs.Sound.{is_evaluated, IsSoundAt, IsSound, IsTold, IsRight}
+use Rattle.session_model.specs.Now.{now_by, evaluation_now}
+use Rattle.session_model.specs.Sound.{is_evaluated, IsSound, IsRight}
 use Rattle.session_model.proofs.KnownLists.{get_in}
 use Rattle.session_model.proofs.States.{state_here, state_there, state_size}
-use Rattle.session_model.proofs.Staying.{Alike, alike_refl, alike_eq, alike_alive, alike_now, Same, same_refl, same_trans, same_readers, evaluation_same, KeepsAlive, sound_stays}
-use Rattle.session_model.proofs.Moving.{not_both, Steps, steps_keep, Visits, Good}
+use Rattle.session_model.proofs.Staying.{Alike, alike_refl, alike_eq, alike_alive, alike_now, Same, same_trans, same_readers, evaluation_same, sound_stays}
+use Rattle.session_model.proofs.Moving.{not_both, Steps}
 use Rattle.session_model.proofs.Changing.{marked_at, unmarked, Unmarked, unchanged, changed_sound}
-use Rattle.session_model.proofs.Running.{no_expression, Leaves, visits_good, output_leaves}
+use Rattle.session_model.proofs.Running.{no_expression, Leaves, output_leaves}
 
 -- no expression and no output is an observer
 pub observer_alone : (i : Node) → is_observer i ≡ true → is_evaluated i ≡ false
@@ -68,9 +66,11 @@ module _ (app : Shape) (orderly : IsOrderly app) (covered : (n : ℕ) → is_cov
     pub right_alike : IsRight app N
     right_alike = record {
       sound = sound_stays app orderly M N right.sound alike_same size (λ m h a. alike_alive (expression_alike m h) ∙ a) (λ m i is e a. alike m i is e);
-      told = record { at = λ m i is o a.
-          let same : Alike (reader_state M m) (reader_state N m) = alike m i is (ap (λ b. b || is_output i) (no_expression i o) ∙ o) in
-          last m i is o ∙ right.told.at m i is o (sym (alike_alive same) ∙ a) ∙ ap (λ (e : Evaluation). Some e.outcome) (sym (evaluation_same app alike_same m (alike_now app m same))) };
+      told = record {
+        at = λ m i is o a.
+            let same : Alike (reader_state M m) (reader_state N m) = alike m i is (ap (λ b. b || is_output i) (no_expression i o) ∙ o) in
+            last m i is o ∙ right.told.at m i is o (sym (alike_alive same) ∙ a) ∙ ap (λ (e : Evaluation). Some e.outcome) (sym (evaluation_same app alike_same m (alike_now app m same)));
+      };
     }
 
   -- ---- what is kept for an observer
@@ -103,20 +103,24 @@ module _ (app : Shape) (orderly : IsOrderly app) (covered : (n : ℕ) → is_cov
   pub right_steps : (k : ℕ) (M N : SessionState) → IsRight app M → Steps app k M N → IsSound app N → IsRight app N
   right_steps k M N right s sound = record {
     sound = sound;
-    told = record { at = λ m i is o a.
-        let own : reader_state N m ≡ reader_state M m = s.others m (ap is_expression_at is ∙ no_expression i o) in
-        ap (λ (r : ReaderState). r.last) own ∙ right.told.at m i is o (sym (ap is_alive own) ∙ a) ∙ ap (λ (e : Evaluation). Some e.outcome) (sym (evaluation_same app s.same m (ap (now_by app m) own))) };
+    told = record {
+      at = λ m i is o a.
+          let own : reader_state N m ≡ reader_state M m = s.others m (ap is_expression_at is ∙ no_expression i o) in
+          ap (λ (r : ReaderState). r.last) own ∙ right.told.at m i is o (sym (ap is_alive own) ∙ a) ∙ ap (λ (e : Evaluation). Some e.outcome) (sym (evaluation_same app s.same m (ap (now_by app m) own)));
+    };
   }
 
   -- ---- changes
   pub right_changed : (M : SessionState) (s : ℕ) (x : SourceValue) → IsRight app M → IsRight app (changed_to s x M)
   right_changed M s x right = record {
     sound = changed_sound app orderly covered M right.sound s x;
-    told = record { at = λ m i is o a.
-        let was : Unmarked s (reader_state M m) = unmarked s (reader_state M m) (sym (ap is_alive (marked_at s m x M)) ∙ a) in
-        let own : reader_state (changed_to s x M) m ≡ reader_state M m = marked_at s m x M ∙ was.stays in
-        ap (λ (r : ReaderState). r.last) own ∙ right.told.at m i is o was.alive
-        ∙ ap (λ (e : Evaluation). Some e.outcome) (sym (unchanged app orderly covered M right.sound s x m i is (ap (λ b. b || is_output i) (no_expression i o) ∙ o) a)) };
+    told = record {
+      at = λ m i is o a.
+          let was : Unmarked s (reader_state M m) = unmarked s (reader_state M m) (sym (ap is_alive (marked_at s m x M)) ∙ a) in
+          let own : reader_state (changed_to s x M) m ≡ reader_state M m = marked_at s m x M ∙ was.stays in
+          ap (λ (r : ReaderState). r.last) own ∙ right.told.at m i is o was.alive
+          ∙ ap (λ (e : Evaluation). Some e.outcome) (sym (unchanged app orderly covered M right.sound s x m i is (ap (λ b. b || is_output i) (no_expression i o) ∙ o) a));
+    };
   }
 
   either : (b : Bool) (M N : SessionState) → IsRight app M → IsRight app N → IsRight app (if b then M else N)
@@ -178,10 +182,12 @@ module _ (app : Shape) (orderly : IsOrderly app) (covered : (n : ℕ) → is_cov
     pub right_output : IsRight app O
     right_output = record {
       sound = sound;
-      told = record { at = λ m j js o a. elim (eqb_tells m n) [
-        | inl p ↦ subst (λ z. (reader_state O z).last ≡ Some (evaluation_now app O z).outcome) (sym p.1) told_here
-        | inr p ↦ told_there m j js o a p.1
-      ] };
+      told = record {
+        at = λ m j js o a. elim (eqb_tells m n) [
+          | inl p ↦ subst (λ z. (reader_state O z).last ≡ Some (evaluation_now app O z).outcome) (sym p.1) told_here
+          | inr p ↦ told_there m j js o a p.1
+        ];
+      };
     }
 
     -- and every expression gives what it gave

@@ -1,21 +1,19 @@
 -- The laws on the states that a session comes to.
-use Rattle.std.proofs.Common.{◌≡◌, ◌≢◌, inl, inr, ◌≤◌, ◌<◌, ℕ, zero, suc, ◌+◌, Bool, true, false, List, [], ◌∷◌, length, Option, Some, None, refl, sym, ap, ◌∙◌, subst, arith}
+use Rattle.std.proofs.Common.{◌≡◌, inl, inr, ◌<◌, ℕ, zero, suc, ◌+◌, Bool, true, false, List, [], ◌∷◌, length, Option, Some, None, refl, sym, ap, ◌∙◌, subst, arith}
 use Rattle.std.specs.Prelude.{⊤, not, ◌&&◌, ◌||◌, slice_get, unwrap_or, if◌then◌else◌}
-use Rattle.std.proofs.lemmas.Bool.{false≢true}
 use Rattle.std.proofs.lemmas.Bool.Decides.{eqb_tells}
-use Rattle.rx_value.specs.declared.outcome.Outcome.{Outcome}
 use Rattle.rx_value.specs.declared.outcome.Outcome.TheVariants as outcome
 use Rattle.app_tree.specs.declared.term.Read.{Read}
 use Rattle.app_tree.specs.declared.term.Read.TheVariants as read
 use Rattle.app_tree.specs.Tree.{Node, input, value, task, reactive, event, text, plot, observe, on, Shape}
 use Rattle.app_tree.specs.Numbering.{readers, reader, is_expression, is_output}
 use Rattle.app_tree.specs.Current.{CurrentValues, value_at}
-use Rattle.app_tree.specs.Cover.{Cached, cached_node, is_covered_by, is_covered, is_sound_below, is_sound}
+use Rattle.app_tree.specs.Cover.{cached_node, is_covered_by, is_covered, is_sound_below, is_sound}
 use Rattle.app_tree.specs.Evaluate.{Asked, reads, given, enters, leaves, Evaluation}
 use Rattle.app_tree.specs.Fresh.{IsolatedOutcomes, kept_sites, answer_to, known_expressions, evaluate_node, fresh_outcome, sources_read}
-use Rattle.session_model.specs.State.{SessionState, first_reader, first_readers, first_state, isolated_of, reader_state, has_run, is_alive}
-use Rattle.session_model.specs.Flush.{is_wanted, make_by, is_observer_at, next_waiting, make_run}
-use Rattle.session_model.specs.Alone.{course_of, ending, state_after}
+use Rattle.session_model.specs.State.{SessionState, first_reader, first_readers, isolated_of, reader_state, has_run, is_alive}
+use Rattle.session_model.specs.Flush.{is_wanted, make_by, is_observer_at}
+use Rattle.session_model.specs.Alone.{course_of, state_after}
 use Rattle.session_model.specs.AskedLaws.{Every}
 use Rattle.session_model.specs.declared.state.ReaderState.{ReaderState}
 use Rattle.session_model.specs.Run.{visit_below}
@@ -31,7 +29,7 @@ use Rattle.session_model.proofs.Moving.{not_both, Good}
 use Rattle.session_model.proofs.Freshness.{reader_fresh, reader_fresh_sources}
 use Rattle.session_model.proofs.WhatIsAsked.{every_all, if_true}
 use Rattle.session_model.proofs.Quiet.{Follows, quiet_evaluation}
-use Rattle.session_model.proofs.Running.{no_expression, run_is, visits_good, output_run}
+use Rattle.session_model.proofs.Running.{run_is, visits_good, output_run}
 use Rattle.session_model.proofs.Observed.{term_is}
 use Rattle.session_model.proofs.Right.{output_same, right_change, right_first}
 use Rattle.session_model.proofs.Journeys.{some_is, moved_on, get_some, next_waits, right_run, right_flush, journal_well, settled_fresh}

@@ -1,28 +1,25 @@
 -- A run as it is stated is the run by its trace, and it keeps that the state is sound.
-use Rattle.std.proofs.Common.{◌≡◌, ◌≢◌, inl, inr, ◌≤◌, ◌<◌, ℕ, zero, suc, ◌+◌, Bool, true, false, List, [], ◌∷◌, ◌++◌, length, Option, Some, None, refl, sym, ap, ◌∙◌, subst, arith}
-use Rattle.std.specs.Prelude.{⊤, not, ◌||◌, ◌==◌, if◌then◌else◌}
+use Rattle.std.proofs.Common.{◌≡◌, ◌≢◌, inl, inr, ◌≤◌, ◌<◌, ℕ, zero, suc, ◌+◌, Bool, true, false, List, [], ◌++◌, length, Option, Some, refl, sym, ap, ◌∙◌, subst, arith}
+use Rattle.std.specs.Prelude.{⊤, ◌||◌}
 use Rattle.std.proofs.lemmas.Bool.Decides.{eqb_tells}
 use Rattle.rx_value.specs.declared.outcome.Outcome.{Outcome}
 use Rattle.app_tree.specs.declared.term.Read.{Read}
-use Rattle.app_tree.specs.declared.term.Read.TheVariants as read
 use Rattle.app_tree.specs.Tree.{Node, input, value, task, reactive, event, text, plot, observe, on, Shape}
 use Rattle.app_tree.specs.Numbering.{readers, reader, is_expression, is_output}
-use Rattle.app_tree.specs.Evaluate.{Answers, Asked, Evaluation}
+use Rattle.app_tree.specs.Evaluate.{Answers, Evaluation}
 use Rattle.app_tree.specs.Cover.{is_covered}
-use Rattle.app_tree.specs.Fresh.{Known, answer_to, sources_of_read, sources_of_reads, evaluate_node, is_expression_at, kept_sites, fresh_evaluation, fresh_outcome, sources_read}
-use Rattle.session_model.specs.declared.state.Dependencies.{Dependencies}
+use Rattle.app_tree.specs.Fresh.{answer_to, sources_of_read, sources_of_reads, evaluate_node, is_expression_at, fresh_evaluation, fresh_outcome, sources_read}
 use Rattle.session_model.specs.declared.state.ReaderState.{ReaderState}
-use Rattle.session_model.specs.State.{SessionState, isolated_of, reader_state, with_reader, with_sources, sources_in, has_run, is_alive}
-use Rattle.session_model.specs.AskedLaws.{Every}
-use Rattle.session_model.specs.Reading.{Reached, Visited}
-use Rattle.session_model.specs.Run.{Ran, choose, forgotten, keeping, read_node, finished, run_with, unvisited, visited_by, run_if_dead, visit_below, visit_expression, run_reader}
-use Rattle.session_model.specs.Orderly.{ReadsBelow, bound_of, IsOrderly, reads_in_node}
-use Rattle.session_model.specs.Now.{EveryRead, recorded, kept_by, open_by, open_sites, sites_now, known_now, evaluation_now, trace, open_answers, node_count, walked, run_by_trace}
+use Rattle.session_model.specs.State.{SessionState, isolated_of, reader_state, with_sources, sources_in, is_alive}
+use Rattle.session_model.specs.Reading.{Visited}
+use Rattle.session_model.specs.Run.{Ran, choose, forgotten, keeping, run_with, run_if_dead, visit_below, visit_expression, run_reader}
+use Rattle.session_model.specs.Orderly.{ReadsBelow, bound_of, IsOrderly}
+use Rattle.session_model.specs.Now.{EveryRead, recorded, kept_by, open_sites, known_now, evaluation_now, trace, open_answers, node_count, walked, run_by_trace}
 use Rattle.session_model.specs.Sound.{is_evaluated, IsAliveRead, IsSoundAt, IsSound}
-use Rattle.session_model.proofs.WhatIsAsked.{every_map, every_zip, reads_zip, if_true, if_false}
+use Rattle.session_model.proofs.WhatIsAsked.{reads_zip, if_true, if_false}
 use Rattle.session_model.proofs.KnownLists.{get_in, sources_alike}
 use Rattle.session_model.proofs.States.{state_here, state_there, state_size, kept_is}
-use Rattle.session_model.proofs.Staying.{funext, Alike, alike_eq, alive_by, open_same, Same, same_refl, same_trans, trace_same, KeepsAlive, asked_low, keeps_asked, sound_at, kept_again}
+use Rattle.session_model.proofs.Staying.{funext, Alike, alike_eq, open_same, Same, same_refl, same_trans, trace_same, KeepsAlive, asked_low, keeps_asked, sound_at, kept_again}
 use Rattle.session_model.proofs.Repeating.{Again}
 use Rattle.session_model.proofs.Kept.{expression_at, kept_same, now_outcome, now_outside, now_within}
 use Rattle.session_model.proofs.Freshness.{outside_of, fresh_known, fresh_read, fresh_reach, expression_fresh}
@@ -259,7 +256,7 @@ module _ (app : Shape) (orderly : IsOrderly app) where
         let good' : Good app (bound_of app n i) (visit_below app n) = subst (λ b. Good app b (visit_below app n)) (sym own) good in
         let evaluated : is_evaluated i ≡ true = ap (λ b. b || is_output i) x in
         let l : Leaves n n N (run_by_trace app (visit_below app n) n N).state (trace app N n).outcome =
-            subst (λ b. Leaves b n N (run_by_trace app (visit_below app n) n N).state (trace app N n).outcome) own (leaves n i is evaluated (covered n) (visit_below app n) good' N sound dead) in
+        subst (λ b. Leaves b n N (run_by_trace app (visit_below app n) n N).state (trace app N n).outcome) own (leaves n i is evaluated (covered n) (visit_below app n) good' N sound dead) in
         subst (λ (r : Ran). Visits app (suc n) n N r.state) (sym (run_is n i is evaluated (covered n) (visit_below app n) good' N sound dead))
         (record { steps = steps_of n N (run_by_trace app (visit_below app n) n N).state (trace app N n).outcome (expression_at app n i is ∙ x) l; sound = l.sound; alive = l.alive })
 

@@ -1,9 +1,8 @@
 -- What is kept for one reader is written, and what is kept for all others stays.
-use Rattle.std.proofs.Common.{◌≡◌, ◌≢◌, ◌<◌, ℕ, zero, suc, List, [], ◌∷◌, length, map, Option, Some, None, refl, sym, ap, ◌∙◌, arith}
-use Rattle.std.specs.Prelude.{slice_get, slice_set, unwrap_or, option_map}
-use Rattle.rx_value.specs.declared.outcome.Outcome.{Outcome}
+use Rattle.std.proofs.Common.{◌≡◌, ◌≢◌, ◌<◌, ℕ, zero, suc, List, [], ◌∷◌, length, map, Some, refl, ap, arith}
+use Rattle.std.specs.Prelude.{slice_get, slice_set, unwrap_or}
 use Rattle.rx_value.specs.declared.outcome.Outcome.TheVariants as o
-use Rattle.app_tree.specs.Fresh.{site_outcome, isolated_outcome, kept_sites}
+use Rattle.app_tree.specs.Fresh.{site_outcome, kept_sites}
 use Rattle.session_model.specs.declared.state.ReaderState.{ReaderState}
 use Rattle.session_model.specs.State.{SessionState, first_reader, isolated_of, reader_state, with_reader}
 use Rattle.session_model.specs.Now.{kept_by}

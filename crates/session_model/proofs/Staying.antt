@@ -1,27 +1,25 @@
 -- What every reader gives now stays as it is where what is kept for the readers stays, where a reader that isn't alive
 -- gets other sites, and where a run is kept.
-use Rattle.std.proofs.Common.{◌≡◌, ◌≢◌, inl, inr, ◌≤◌, ◌<◌, ℕ, zero, suc, ◌+◌, Bool, true, false, List, [], ◌∷◌, ◌++◌, length, Option, Some, None, refl, sym, ap, ◌∙◌, subst, arith}
-use Rattle.std.specs.Prelude.{⊤, slice_get, unwrap_or, option_map, not, is_some, ◌==◌, ◌||◌, if◌then◌else◌}
-use Rattle.std.proofs.lemmas.Bool.Decides.{eqb_tells}
+use Rattle.std.proofs.Common.{◌≡◌, ℕ, Bool, true, false, List, [], length, Option, Some, None, refl, sym, ap, ◌∙◌, subst}
+use Rattle.std.specs.Prelude.{unwrap_or, option_map, not, is_some, if◌then◌else◌}
 use Rattle.rx_value.specs.declared.outcome.Outcome.{Outcome}
 use Rattle.rx_value.specs.declared.outcome.Outcome.TheVariants as o
 use Rattle.app_tree.specs.declared.term.Read.{Read}
 use Rattle.app_tree.specs.declared.term.Read.TheVariants as read
 use Rattle.app_tree.specs.Tree.{Node, Shape}
-use Rattle.app_tree.specs.Numbering.{readers, reader, is_expression, is_output}
-use Rattle.app_tree.specs.Current.{CurrentValues}
-use Rattle.app_tree.specs.Evaluate.{Answers, Asked, Evaluation}
-use Rattle.app_tree.specs.Fresh.{Sites, Known, site_outcome, known_at, answer_to, sources_of_reads, evaluate_node, evaluate_reader, known_by, is_expression_at, known_below, known_expressions, first_sites}
+use Rattle.app_tree.specs.Numbering.{readers, reader}
+use Rattle.app_tree.specs.Evaluate.{Answers, Evaluation}
+use Rattle.app_tree.specs.Fresh.{Known, site_outcome, answer_to, sources_of_reads, evaluate_node, evaluate_reader, known_by, is_expression_at, known_below, known_expressions, first_sites}
 use Rattle.session_model.specs.declared.state.Dependencies.{Dependencies}
 use Rattle.session_model.specs.declared.state.ReaderState.{ReaderState}
-use Rattle.session_model.specs.State.{SessionState, reader_state, sources_in, has_run, is_alive}
+use Rattle.session_model.specs.State.{SessionState, reader_state, sources_in, is_alive}
 use Rattle.session_model.specs.AskedLaws.{Every}
-use Rattle.session_model.specs.Orderly.{ReadsBelow, bound_of, IsOrderly, IsNumberedNode, reads_in_node}
-use Rattle.session_model.specs.Now.{OfRead, EveryRead, recorded, kept_by, open_by, now_by, open_sites, sites_now, known_now, evaluation_now, trace, open_answers}
+use Rattle.session_model.specs.Orderly.{ReadsBelow, bound_of, IsOrderly}
+use Rattle.session_model.specs.Now.{EveryRead, recorded, kept_by, open_by, now_by, open_sites, sites_now, known_now, evaluation_now, trace, open_answers}
 use Rattle.session_model.specs.Sound.{is_evaluated, IsAliveRead, IsSoundAt, IsSound}
-use Rattle.session_model.proofs.Repeating.{Again, IsKept, IsAlikeRead, node_repeats}
-use Rattle.session_model.proofs.WhatIsAsked.{every_map, every_all, reads_map, reads_zip, node_asks, node_meets, Met, IsFound, if_true, if_false}
-use Rattle.session_model.proofs.KnownLists.{get_in, known_same, known_is, known_fixed, same_evaluation}
+use Rattle.session_model.proofs.Repeating.{Again, IsKept, node_repeats}
+use Rattle.session_model.proofs.WhatIsAsked.{every_map, reads_zip, node_asks, node_meets, IsFound, if_true, if_false}
+use Rattle.session_model.proofs.KnownLists.{known_same}
 
 pub funext : {A B : Type 0} {f g : A → B} → ((x : A) → f x ≡ g x) → f ≡ g
 funext p = λ i. λ x. p x i

@@ -1,13 +1,11 @@
 -- A term that is evaluated with the session's state handed on from read to read comes to its evaluation, and leaves the
 -- state that walking through what it asks gives.
-use Rattle.std.proofs.Common.{◌≡◌, ◌≤◌, ◌<◌, ℕ, zero, suc, ◌+◌, ℤ, Bool, true, false, List, [], ◌∷◌, ◌++◌, Option, Some, None, refl, sym, ap, ◌∙◌, subst, arith}
-use Rattle.std.specs.Prelude.{⊤, slice_get, unwrap_or}
+use Rattle.std.proofs.Common.{◌≡◌, ◌≤◌, ◌<◌, ℕ, suc, ◌+◌, ℤ, Bool, true, false, List, [], ◌∷◌, ◌++◌, Option, Some, None, refl, sym, ap, ◌∙◌, arith}
+use Rattle.std.specs.Prelude.{⊤}
 use Rattle.rx_value.specs.declared.value.Value.{Value}
 use Rattle.rx_value.specs.declared.value.Value.TheVariants as v
 use Rattle.rx_value.specs.declared.outcome.Outcome.{Outcome}
 use Rattle.rx_value.specs.declared.outcome.Outcome.TheVariants as outcome
-use Rattle.rx_value.specs.declared.failure.Failure.TheVariants.{WrongKind, NotACondition}
-use Rattle.rx_value.specs.Failure.{failed}
 use Rattle.rx_value.specs.Numbers.{numbers_of}
 use Rattle.rx_value.specs.Operators.{unary_result, binary_result}
 use Rattle.app_tree.specs.declared.term.Read.{Read}
@@ -24,7 +22,7 @@ use Rattle.session_model.specs.AskedLaws.{Every}
 use Rattle.session_model.specs.Reading as r
 use Rattle.session_model.specs.Reading.{Reached, Visited, Manner, Reading, followed, go_on_by, go_on, read_expression, read_in, decided_in, operated_in, chosen_in, over_each_in, over_list_in, kept_in, read_term, read_terms}
 use Rattle.session_model.specs.Orderly.{IsNumbered, AreNumbered}
-use Rattle.session_model.specs.Now.{OfRead, EveryRead, given_outcome, then_walked, stayed, walked_by, walked}
+use Rattle.session_model.specs.Now.{OfRead, EveryRead, given_outcome, then_walked, walked_by, walked}
 use Rattle.session_model.proofs.Agreeing.{front, back}
 use Rattle.session_model.proofs.Asking.{bare_numbered}
 use Rattle.session_model.proofs.WhatIsAsked.{term_asks}

@@ -1,27 +1,24 @@
 -- Walking through what the run of a reader asks.
-use Rattle.std.proofs.Common.{◌≡◌, ◌≢◌, inl, inr, ◌≤◌, ◌<◌, ℕ, zero, suc, ◌+◌, Bool, true, false, List, [], ◌∷◌, ◌++◌, length, Option, Some, None, refl, sym, ap, ◌∙◌, subst, arith, append_assoc, append-nil}
-use Rattle.std.specs.Prelude.{⊤, ◌==◌}
-use Rattle.std.proofs.lemmas.Bool.Decides.{eqb_tells}
+use Rattle.std.proofs.Common.{◌≡◌, ◌<◌, ℕ, true, false, List, [], ◌∷◌, ◌++◌, length, Option, Some, None, refl, sym, ap, ◌∙◌, arith, append_assoc, append-nil}
 use Rattle.rx_value.specs.declared.outcome.Outcome.{Outcome}
 use Rattle.app_tree.specs.declared.term.Read.{Read}
 use Rattle.app_tree.specs.declared.term.Read.TheVariants as read
 use Rattle.app_tree.specs.Tree.{Node, Shape}
-use Rattle.app_tree.specs.Numbering.{readers, reader, is_expression}
+use Rattle.app_tree.specs.Numbering.{reader, is_expression}
 use Rattle.app_tree.specs.Current.{told}
-use Rattle.app_tree.specs.Evaluate.{Answers, Asked, reads, given, enters, leaves, Evaluation}
-use Rattle.app_tree.specs.Fresh.{Known, known_at, answer_to, is_expression_at, fresh_outcome}
+use Rattle.app_tree.specs.Evaluate.{Answers, Asked, reads, given, enters, leaves}
+use Rattle.app_tree.specs.Fresh.{known_at, answer_to, is_expression_at, fresh_outcome}
 use Rattle.session_model.specs.declared.state.ReaderState.{ReaderState}
-use Rattle.session_model.specs.State.{SessionState, isolated_of, reader_state, with_reader, is_alive}
-use Rattle.session_model.specs.AskedLaws.{Every}
-use Rattle.session_model.specs.Reading.{Visited, Manner}
+use Rattle.session_model.specs.State.{SessionState, isolated_of, reader_state, is_alive}
+use Rattle.session_model.specs.Reading.{Visited}
 use Rattle.session_model.specs.Run.{with_isolated, keeping, passing}
-use Rattle.session_model.specs.Orderly.{ReadsBelow, bound_of, IsOrderly}
-use Rattle.session_model.specs.Now.{OfRead, EveryRead, given_outcome, recorded, known_now, open_sites, trace, open_answers, stayed, walked_by, walked}
-use Rattle.session_model.specs.Sound.{is_evaluated, IsAliveRead, IsSoundAt, IsSound}
-use Rattle.session_model.proofs.States.{state_here, state_there, state_size}
-use Rattle.session_model.proofs.Staying.{Same, KeepsAlive, alive_by}
+use Rattle.session_model.specs.Orderly.{ReadsBelow, IsOrderly}
+use Rattle.session_model.specs.Now.{OfRead, EveryRead, given_outcome, recorded, known_now, walked_by, walked}
+use Rattle.session_model.specs.Sound.{IsAliveRead, IsSound}
+use Rattle.session_model.proofs.States.{state_here}
+use Rattle.session_model.proofs.Staying.{KeepsAlive, alive_by}
 use Rattle.session_model.proofs.Freshness.{expression_now}
-use Rattle.session_model.proofs.Moving.{not_both, Steps, steps_keep, Moves, moves_step, dead_same, dead_sound, dead_keeps, dead_moves, Good, Visits}
+use Rattle.session_model.proofs.Moving.{Steps, steps_keep, Moves, moves_step, dead_sound, dead_keeps, dead_moves, Good, Visits}
 use Rattle.session_model.proofs.Threading.{Serves, IsSourceRead}
 
 some_at : (o : Option Node) → is_expression_at o ≡ true → (i : Node) × (o ≡ Some i) × (is_expression i ≡ true)

@@ -1,18 +1,18 @@
 -- What an evaluation asks: reads that stand in its text, and sites by their numbers, each once.
 use Rattle.std.proofs.lemmas.Bool.Decides.{eqb_tells}
-use Rattle.std.proofs.Common.{◌≡◌, ◌≢◌, inl, inr, ◌≤◌, ◌<◌, ℕ, zero, suc, ◌+◌, Bool, true, false, List, [], ◌∷◌, ◌++◌, Option, Some, None, refl, sym, ap, ◌∙◌, subst, arith}
+use Rattle.std.proofs.Common.{◌≡◌, ◌≢◌, inl, inr, ◌≤◌, ◌<◌, ℕ, suc, ◌+◌, Bool, true, false, List, [], ◌∷◌, ◌++◌, Option, Some, None, refl, sym, ap, ◌∙◌, subst, arith}
 use Rattle.std.specs.Prelude.{⊤, ◌==◌, if◌then◌else◌}
 use Rattle.rx_value.specs.declared.outcome.Outcome.{Outcome}
 use Rattle.app_tree.specs.declared.term.Read.{Read}
-use Rattle.app_tree.specs.Tree.{Tree, Trees, Node}
-use Rattle.app_tree.specs.Evaluate.{Answers, Asked, reads, given, enters, leaves, Evaluation, after, evaluate, evaluate_all, site_count, site_count_all}
-use Rattle.app_tree.specs.Cover.{reads_in, reads_in_all}
+use Rattle.app_tree.specs.Tree.{Tree, Node}
+use Rattle.app_tree.specs.Evaluate.{Answers, Asked, reads, given, enters, leaves, Evaluation, evaluate, site_count}
+use Rattle.app_tree.specs.Cover.{reads_in}
 use Rattle.app_tree.specs.Fresh.{evaluate_node, site_outcome}
 use Rattle.session_model.specs.AskedLaws.{Every}
-use Rattle.session_model.specs.Orderly.{IsNumbered, AreNumbered, IsNumberedNode, reads_in_node}
+use Rattle.session_model.specs.Orderly.{IsNumbered, IsNumberedNode, reads_in_node}
 use Rattle.session_model.specs.Now.{OfRead, EveryRead, given_outcome, recorded}
 use Rattle.session_model.proofs.Agreeing.{front, back}
-use Rattle.session_model.proofs.Asking.{IsOfParts, node_sites, term_has, terms_have, node_has}
+use Rattle.session_model.proofs.Asking.{IsOfParts, node_sites, term_has, node_has}
 
 -- ---- facts of each member
 

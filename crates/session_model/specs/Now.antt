@@ -1,17 +1,17 @@
 -- The form of a run in which proofs go well: what every reader gives now, whether it is alive or not, and the one
 -- evaluation of a run on it. In each state that a session comes to, this is the run as it is stated in `Run`.
-use Rattle.std.specs.Prelude.{◌≡◌, ⊤, ℕ, zero, suc, ◌+◌, Bool, true, false, List, [], ◌∷◌, ◌++◌, length, Option, Some, None, slice_get, unwrap_or, if◌then◌else◌}
+use Rattle.std.specs.Prelude.{⊤, ℕ, ◌+◌, List, [], ◌∷◌, Option, Some, None, unwrap_or, if◌then◌else◌}
 use Rattle.rx_value.specs.declared.value.Value.TheVariants as v
 use Rattle.rx_value.specs.declared.outcome.Outcome.{Outcome}
 use Rattle.rx_value.specs.declared.outcome.Outcome.TheVariants as o
 use Rattle.app_tree.specs.declared.term.Read.{Read}
 use Rattle.app_tree.specs.declared.term.Read.TheVariants as read
 use Rattle.app_tree.specs.Tree.{Tree, Trees, no_trees, tree, Node, reactive, event, text, plot, Shape}
-use Rattle.app_tree.specs.Numbering.{readers, reader}
+use Rattle.app_tree.specs.Numbering.{reader}
 use Rattle.app_tree.specs.Evaluate.{Answers, Asked, reads, given, enters, leaves, Evaluation, plain, evaluate, evaluate_all}
 use Rattle.app_tree.specs.Fresh.{site_outcome, Sites, Known, answer_to, evaluate_reader, known_expressions, sources_of_reads, first_sites}
 use Rattle.session_model.specs.declared.state.ReaderState.{ReaderState}
-use Rattle.session_model.specs.State.{SessionState, reader_state, with_reader, with_sources, has_run, is_alive}
+use Rattle.session_model.specs.State.{SessionState, reader_state, with_sources, has_run, is_alive}
 use Rattle.session_model.specs.AskedLaws.{Every}
 use Rattle.session_model.specs.Reading.{Reached, Visited, Manner}
 use Rattle.session_model.specs.Run.{Ran, forgotten, keeping}

@@ -16,7 +16,7 @@ use Rattle.session_model.specs.Reading.{read_term}
 use Rattle.session_model.specs.Orderly.{ReadsBelow, IsNumbered}
 use Rattle.session_model.specs.Standing.{IsConsistent, StandsForState, missing_readers, keeping_all}
 use Rattle.session_model.specs.Flush.{is_wanted, next_waiting, make_run, flush}
-use Rattle.session_model.specs.Alone.{Course, course_of, ending, state_after}
+use Rattle.session_model.specs.Alone.{course_of, ending, state_after}
 use Rattle.session_model.specs.AskedLaws.{Every}
 use Rattle.session_model.specs.Now.{known_now, evaluation_now, run_by_trace, read_by_trace}
 use Rattle.session_model.specs.Sound.{is_evaluated, IsRight}

@@ -1,6 +1,6 @@
 -- What holds in every state that a session comes to: each expression or output that is alive depends on what it reaches
 -- now, and all that it reads is alive too.
-use Rattle.std.specs.Prelude.{◌≡◌, ⊤, ℕ, Bool, true, ◌||◌, List, [], length, Option, Some}
+use Rattle.std.specs.Prelude.{◌≡◌, ⊤, ℕ, Bool, true, ◌||◌, [], length, Some}
 use Rattle.app_tree.specs.declared.term.Read.{Read}
 use Rattle.app_tree.specs.declared.term.Read.TheVariants as read
 use Rattle.app_tree.specs.Tree.{Node, Shape}

@@ -1,9 +1,9 @@
 -- What it means that a session, which keeps outcomes, stands for a state, which keeps none.
-use Rattle.std.specs.Prelude.{◌≡◌, ⊤, ◌⊎◌, ℕ, zero, suc, ◌+◌, ◌==◌, Bool, true, false, not, ◌&&◌, List, [], ◌∷◌, length, Option, Some, None, slice_get, unwrap_or, if◌then◌else◌}
+use Rattle.std.specs.Prelude.{◌≡◌, ◌⊎◌, ℕ, zero, suc, ◌+◌, ◌==◌, Bool, true, false, not, ◌&&◌, List, [], ◌∷◌, length, Option, Some, slice_get, unwrap_or, if◌then◌else◌}
 use Rattle.rx_value.specs.declared.outcome.Outcome.{Outcome}
 use Rattle.rx_value.specs.declared.outcome.Outcome.TheVariants.{Stop}
 use Rattle.app_tree.specs.Tree.{Node, reactive, Shape}
-use Rattle.app_tree.specs.Numbering.{readers, reader, is_output}
+use Rattle.app_tree.specs.Numbering.{readers, reader}
 use Rattle.app_tree.specs.Current.{CurrentValues}
 use Rattle.app_tree.specs.Evaluate.{Answers, site_count, site_count_all}
 use Rattle.app_tree.specs.Fresh.{answer_to, known_expressions, kept_sites, fresh_evaluation, fresh_outcome, sources_read}
