@@ -30,3 +30,5 @@ pub mod Right
 pub mod Observed
 pub mod Journeys
 pub mod RightLaws
+pub mod Parted
+pub mod MissingExample

@@ -26,5 +26,7 @@ pub mod Now
 pub mod Sound
 pub mod Standing
 pub mod RightLaws
+pub mod Parted
+pub mod MissingExample
 pub mod AppLaws
 pub mod Apart

@@ -4,6 +4,8 @@ ghost use Rattle.session_model.specs.Apart.{LinesInterleave, TranscriptsInterlea
 ghost use Rattle.session_model.specs.AppLaws.{WellFormedIsOrderly};
 ghost use Rattle.session_model.specs.AskedLaws.{EqualAnswersGiveEqual};
 ghost use Rattle.session_model.specs.RightLaws.{FirstIsRight, ChangeKeepsRight, RunKeepsRight, FlushKeepsRight, JournalIsRight, AliveIsFresh, AliveDependsOnReads, RunIsByTrace, RunLeavesNow, WantedIsFresh, ShownIsFresh, DependsOnReadsAlone, ExpressionIsByTrace, TermIsByTrace, JournalIsConsistent, KeepingAllStands, NoneIsMissing};
+ghost use Rattle.session_model.specs.MissingExample.{CountsTheMissing};
+ghost use Rattle.session_model.specs.Parted.{SeesTheSite, MissesTheSite};
 ghost use Rattle.session_model.specs.Laws.{EqualValueChangesNothing, DoneIsSettled, IsWithinBudget, AnswersGoOn, OverStays, OverIsSilent};
 
 /// Setting a source to the value that it has changes nothing.
@@ -83,4 +85,17 @@ pub fn standing_laws()
     ensures consistent { JournalIsConsistent }
     ensures stands { KeepingAllStands }
     ensures missing { NoneIsMissing }
+{}
+
+/// In a state that no session comes to, a run as it is stated and the run by its trace part.
+#[tactic(auto, using(crate::proofs::Parted::sees_the_site, crate::proofs::Parted::misses_the_site))]
+pub fn runs_part_in_a_wrong_state()
+    ensures stated { SeesTheSite }
+    ensures traced { MissesTheSite }
+{}
+
+/// A cached reader whose keys fail doesn't count as missing, and each other reader that is alive in the state alone does.
+#[tactic(auto, using(crate::proofs::MissingExample::counts_the_missing))]
+pub fn counts_missing_readers()
+    ensures { CountsTheMissing }
 {}

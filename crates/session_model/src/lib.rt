@@ -17,7 +17,7 @@ pub use examples::{
     shows_an_equal_input,
 };
 pub use laws::{
-    app_laws, change_laws, evaluation_laws, flush_laws, freshness_laws, journal_laws, run_laws,
-    standing_laws, state_laws, transcript_laws,
+    app_laws, change_laws, counts_missing_readers, evaluation_laws, flush_laws, freshness_laws,
+    journal_laws, run_laws, runs_part_in_a_wrong_state, standing_laws, state_laws, transcript_laws,
 };
 pub use state::{Dependencies, ReaderState};
