@@ -2,14 +2,15 @@
 use Rattle.std.proofs.Common.{◌≡◌, ◌≢◌, inl, inr, ◌⊎◌, ◌<◌, ℕ, zero, suc, Bool, true, false, List, [], ◌∷◌, length, Option, Some, None, refl, sym, ap, ◌∙◌, subst, arith}
 use Rattle.std.proofs.lemmas.Bool.Decides.{eqb_tells}
 use Rattle.std.specs.Prelude.{◌||◌, slice_get, slice_set, unwrap_or, if◌then◌else◌}
+use Rattle.rx_value.specs.declared.outcome.Outcome.{Outcome}
 use Rattle.rx_value.specs.declared.source.SourceValue.{SourceValue}
 use Rattle.rx_value.specs.Value.{source_eq}
 use Rattle.app_tree.specs.Tree.{Node, input, value, task, reactive, event, text, plot, observe, on, Shape}
-use Rattle.app_tree.specs.Numbering.{readers, reader, is_output, is_observer}
+use Rattle.app_tree.specs.Numbering.{readers, reader, is_expression, is_output, is_observer}
 use Rattle.app_tree.specs.Current.{value_at}
 use Rattle.app_tree.specs.Evaluate.{Evaluation}
 use Rattle.app_tree.specs.Cover.{is_covered}
-use Rattle.app_tree.specs.Fresh.{is_expression_at}
+use Rattle.app_tree.specs.Fresh.{Known, known_at, answer_to, evaluate_node, is_expression_at}
 use Rattle.task_board.specs.Board.{TaskBoard}
 use Rattle.session_model.specs.declared.state.ReaderState.{ReaderState}
 use Rattle.session_model.specs.State.{SessionState, first_reader, first_readers, first_state, reader_state, with_reader, is_alive}
@@ -18,14 +19,14 @@ use Rattle.session_model.specs.Run.{Ran, run_reader}
 use Rattle.session_model.specs.Flush.{with_last}
 use Rattle.session_model.specs.Tasks.{with_board}
 use Rattle.session_model.specs.Orderly.{IsOrderly}
-use Rattle.session_model.specs.Now.{now_by, evaluation_now}
+use Rattle.session_model.specs.Now.{sites_now, known_now, now_by, evaluation_now}
 use Rattle.session_model.specs.Sound.{is_evaluated, IsSound, IsRight}
-use Rattle.session_model.proofs.KnownLists.{get_in}
+use Rattle.session_model.proofs.KnownLists.{known_fixed, get_in}
 use Rattle.session_model.proofs.States.{state_here, state_there, state_size}
-use Rattle.session_model.proofs.Staying.{Alike, alike_refl, alike_eq, alike_alive, alike_now, Same, same_trans, same_readers, evaluation_same, sound_stays}
+use Rattle.session_model.proofs.Staying.{open_now, Alike, alike_refl, alike_eq, alike_alive, alike_now, Same, same_trans, same_readers, evaluation_same, sound_stays}
 use Rattle.session_model.proofs.Moving.{not_both, Steps}
 use Rattle.session_model.proofs.Changing.{marked_at, unmarked, Unmarked, unchanged, changed_sound}
-use Rattle.session_model.proofs.Running.{no_expression, Leaves, output_leaves}
+use Rattle.session_model.proofs.Running.{output_run, no_expression, Leaves, output_leaves}
 
 -- no expression and no output is an observer
 pub observer_alone : (i : Node) → is_observer i ≡ true → is_evaluated i ≡ false
@@ -193,6 +194,32 @@ module _ (app : Shape) (orderly : IsOrderly app) (covered : (n : ℕ) → is_cov
     -- and every expression gives what it gave
     pub output_same : Same app M O
     output_same = same_trans app leaves.same same
+
+    gives_here : (evaluation_now app O n).outcome ≡ (evaluation_now app M n).outcome
+    gives_here =
+        ap (λ (e : Evaluation). e.outcome) (evaluation_same app same n (alike_now app n (alike_at n))) ∙ leaves.gives
+        ∙ ap (λ (r : Ran). r.outcome) (output_run app orderly covered n i is output M right.sound dead)
+        ∙ sym (ap (λ (s : ℕ → Option Outcome). (evaluate_node (reader app n) (record { read = answer_to app M.values (known_now app M); site = s })).outcome) (open_now app n (reader_state M n) dead))
+
+    gives_there : (m : ℕ) (j : Node) → reader app m ≡ Some j → is_output j ≡ true → m ≢ n → (evaluation_now app O m).outcome ≡ (evaluation_now app M m).outcome
+    gives_there m j js o d =
+        let own : reader_state O m ≡ reader_state M m = state_there F n m mine d ∙ leaves.others m (ap is_expression_at js ∙ no_expression j o) d in
+        ap (λ (e : Evaluation). e.outcome) (evaluation_same app output_same m (ap (now_by app m) own))
+
+    -- what an expression gives now is what is known of it now
+    expression_gives : (N : SessionState) (m : ℕ) (j : Node) → reader app m ≡ Some j → is_expression j ≡ true → (evaluation_now app N m).outcome ≡ (known_at (known_now app N) m).outcome
+    expression_gives N m j js x = ap (λ (k : Known). k.outcome) (sym (known_fixed app N.values (sites_now app N) orderly m j js x))
+
+    -- so does every output
+    pub output_gives : (m : ℕ) (j : Node) → reader app m ≡ Some j → is_evaluated j ≡ true → (evaluation_now app O m).outcome ≡ (evaluation_now app M m).outcome
+    output_gives m j js e = by (is_expression j) refl
+      where
+        by : (b : Bool) → is_expression j ≡ b → (evaluation_now app O m).outcome ≡ (evaluation_now app M m).outcome
+        by true x = expression_gives O m j js x ∙ ap (λ l. (known_at l m).outcome) output_same.known ∙ sym (expression_gives M m j js x)
+        by false x = elim (eqb_tells m n) [
+          | inl p ↦ subst (λ z. (evaluation_now app O z).outcome ≡ (evaluation_now app M z).outcome) (sym p.1) gives_here
+          | inr p ↦ gives_there m j js (sym (ap (λ b. b || is_output j) x) ∙ e) p.1
+        ]
 
   -- ---- before the first event
   none_alive : (is : List Node) (n : ℕ) → unwrap_or (slice_get (first_readers is) n) first_reader ≡ first_reader

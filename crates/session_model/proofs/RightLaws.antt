@@ -12,16 +12,16 @@ use Rattle.app_tree.specs.Cover.{cached_node, is_covered_by, is_covered, is_soun
 use Rattle.app_tree.specs.Evaluate.{Asked, reads, given, enters, leaves, Evaluation}
 use Rattle.app_tree.specs.Fresh.{IsolatedOutcomes, kept_sites, answer_to, known_expressions, evaluate_node, fresh_outcome, sources_read}
 use Rattle.session_model.specs.State.{SessionState, first_reader, first_readers, isolated_of, reader_state, has_run, is_alive}
-use Rattle.session_model.specs.Flush.{is_wanted, make_by, is_observer_at}
+use Rattle.session_model.specs.Flush.{make_run, Made, is_wanted, make_by, is_observer_at}
 use Rattle.session_model.specs.Alone.{course_of, state_after}
 use Rattle.session_model.specs.AskedLaws.{Every}
 use Rattle.session_model.specs.declared.state.ReaderState.{ReaderState}
 use Rattle.session_model.specs.Run.{visit_below}
 use Rattle.session_model.specs.Orderly.{bound_of, IsOrderly}
 use Rattle.session_model.specs.Standing.{first_kept, kept_reader, IsConsistent, fresh_answers, missing_below, kept_from, keeping_all}
-use Rattle.session_model.specs.Now.{EveryRead, OfRead, known_now, node_count}
+use Rattle.session_model.specs.Now.{EveryRead, OfRead, node_count}
 use Rattle.session_model.specs.Sound.{is_evaluated, IsAliveRead, IsRight}
-use Rattle.session_model.specs.RightLaws.{IsProper, FirstIsRight, ChangeKeepsRight, RunKeepsRight, FlushKeepsRight, JournalIsRight, AliveIsFresh, AliveDependsOnReads, RunIsByTrace, RunLeavesNow, WantedIsFresh, ShownIsFresh, DependsOnReadsAlone, ExpressionIsByTrace, TermIsByTrace, JournalIsConsistent, KeepingAllStands, NoneIsMissing}
+use Rattle.session_model.specs.RightLaws.{LeavesNow, IsProper, FirstIsRight, ChangeKeepsRight, RunKeepsRight, FlushKeepsRight, JournalIsRight, AliveIsFresh, AliveDependsOnReads, RunIsByTrace, RunLeavesNow, WantedIsFresh, ShownIsFresh, DependsOnReadsAlone, ExpressionIsByTrace, TermIsByTrace, JournalIsConsistent, KeepingAllStands, NoneIsMissing}
 use Rattle.session_model.proofs.WellOrdered.{well_formed_is_orderly}
 use Rattle.session_model.proofs.Covering.{and_left, and_right}
 use Rattle.session_model.proofs.KnownLists.{get_in}
@@ -31,7 +31,7 @@ use Rattle.session_model.proofs.WhatIsAsked.{every_all, if_true}
 use Rattle.session_model.proofs.Quiet.{Follows, quiet_evaluation}
 use Rattle.session_model.proofs.Running.{run_is, visits_good, output_run}
 use Rattle.session_model.proofs.Observed.{term_is}
-use Rattle.session_model.proofs.Right.{output_same, right_change, right_first}
+use Rattle.session_model.proofs.Right.{output_gives, output_same, right_change, right_first}
 use Rattle.session_model.proofs.Journeys.{some_is, moved_on, get_some, next_waits, right_run, right_flush, journal_well, settled_fresh}
 
 zero_front : (n : ℕ) → 0 + n ≡ n
@@ -97,10 +97,16 @@ no_observer (plot name shown) h = refl
 no_observer (observe name priority block) h = cc
 no_observer (on name priority flags e block) h = cc
 
+made_by : (app : Shape) (state : SessionState) (n : ℕ) (i : Node) → reader app n ≡ Some i → is_output i ≡ true → make_run app n state ≡ make_by false app n state
+made_by app state n i is o = ap (λ b. make_by b app n state) (ap is_observer_at is ∙ no_observer i o)
+
 pub run_leaves_now : RunLeavesNow
 run_leaves_now app p state right n i is o dead =
-    ap (λ b. known_now app (make_by b app n state).state) (ap is_observer_at is ∙ no_observer i o)
-    ∙ (output_same app (orderly app p) (covered app p) n i is o state right dead).known
+    subst (λ (m : Made). LeavesNow app state m.state) (sym (made_by app state n i is o))
+    (record {
+      expressions = (output_same app (orderly app p) (covered app p) n i is o state right dead).known;
+      gives = output_gives app (orderly app p) (covered app p) n i is o state right dead;
+    })
 
 pub wanted_is_fresh : WantedIsFresh
 wanted_is_fresh app p journal none begun n i is o wanted =

@@ -64,11 +64,15 @@ RunIsByTrace =
     (app : Shape) → IsProper app → (state : SessionState) → IsRight app state → (n : ℕ) (i : Node) → reader app n ≡ Some i → is_output i ≡ true → is_alive (reader_state state n) ≡ false
     → run_reader app n state ≡ run_by_trace app (visit_expression app) n state
 
--- it leaves what every expression gives now, and reaches now, as it is
+-- it leaves what every expression gives now, and reaches now, as it is, and what every output gives now
+pub record LeavesNow (app : Shape) (before after : SessionState) : Type 0 where
+  pub expressions : known_now app after ≡ known_now app before
+  pub gives : (n : ℕ) (i : Node) → reader app n ≡ Some i → is_evaluated i ≡ true → (evaluation_now app after n).outcome ≡ (evaluation_now app before n).outcome
+
 abbrev pub RunLeavesNow : Type 0
 RunLeavesNow =
     (app : Shape) → IsProper app → (state : SessionState) → IsRight app state → (n : ℕ) (i : Node) → reader app n ≡ Some i → is_output i ≡ true → is_alive (reader_state state n) ≡ false
-    → known_now app (make_run app n state).state ≡ known_now app state
+    → LeavesNow app state (make_run app n state).state
 
 -- after a journal that has not ended the session, each output that is wanted has last come to what it comes to afresh
 abbrev pub WantedIsFresh : Type 0

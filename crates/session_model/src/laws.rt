@@ -72,7 +72,8 @@ pub fn freshness_laws()
 {}
 
 /// A run as it is stated, with the state handed on from read to read, is the run by its trace: one evaluation on what
-/// every reader gives now, and a walk through what it asks. It leaves what every expression gives now as it is.
+/// every reader gives now, and a walk through what it asks. It leaves what every expression and every
+/// output gives now as it is.
 pub fn run_laws()
     ensures output { RunIsByTrace }
     ensures expression { ExpressionIsByTrace }
