@@ -249,20 +249,22 @@ kept_outcome app state n h =
 
 pub keeping_all_stands : KeepingAllStands
 keeping_all_stands app p state right = record {
-  values = refl;
+  stands = record {
+    values = refl;
+    isolated = λ n. ap (λ (r : ReaderState). r.isolated) (kept_state app state n);
+    consistent = consistent app p state right;
+    right = λ n a. record {
+      alive = ap is_alive (sym (kept_state app state n)) ∙ a;
+      dependencies = ap (λ (r : ReaderState). r.dependencies) (kept_state app state n);
+      outcome = λ i is e. kept_outcome app state n (let inside = get_in (readers app) n i is in let size = right.sound.size in omega (inside, size, arith));
+    };
+    ran = λ n h. ap has_run (sym (kept_state app state n)) ∙ h;
+    keeps = λ n a. inl (ap is_alive (kept_state app state n) ∙ a);
+    has = λ n h. inl (ap has_run (kept_state app state n) ∙ h);
+  };
   boards = refl;
-  isolated = λ n. ap (λ (r : ReaderState). r.isolated) (kept_state app state n);
   shown = λ n. ap (λ (r : ReaderState). r.shown) (kept_state app state n);
   last = λ n. ap (λ (r : ReaderState). r.last) (kept_state app state n);
-  consistent = consistent app p state right;
-  right = λ n a. record {
-    alive = ap is_alive (sym (kept_state app state n)) ∙ a;
-    dependencies = ap (λ (r : ReaderState). r.dependencies) (kept_state app state n);
-    outcome = λ i is e. kept_outcome app state n (let inside = get_in (readers app) n i is in let size = right.sound.size in omega (inside, size, arith));
-  };
-  ran = λ n h. ap has_run (sym (kept_state app state n)) ∙ h;
-  keeps = λ n a. inl (ap is_alive (kept_state app state n) ∙ a);
-  has = λ n h. inl (ap has_run (kept_state app state n) ∙ h);
 }
 
 none_missing : (app : Shape) (state : SessionState) (n : ℕ) → missing_below app (keeping_all app state) state n ≡ 0

@@ -14,7 +14,7 @@ use Rattle.session_model.specs.Change.{change}
 use Rattle.session_model.specs.Run.{passing, run_with, visit_below, visit_expression, run_reader}
 use Rattle.session_model.specs.Reading.{read_term}
 use Rattle.session_model.specs.Orderly.{ReadsBelow, IsNumbered}
-use Rattle.session_model.specs.Standing.{IsConsistent, StandsForState, missing_readers, keeping_all}
+use Rattle.session_model.specs.Standing.{IsConsistent, StandsWholly, missing_readers, keeping_all}
 use Rattle.session_model.specs.Flush.{is_wanted, next_waiting, make_run, flush}
 use Rattle.session_model.specs.Alone.{course_of, ending, state_after}
 use Rattle.session_model.specs.AskedLaws.{Every}
@@ -118,7 +118,7 @@ JournalIsConsistent = (app : Shape) → IsProper app → (journal : List Event) 
 
 -- and the session that keeps all stands for it, with no reader missing
 abbrev pub KeepingAllStands : Type 0
-KeepingAllStands = (app : Shape) → IsProper app → (state : SessionState) → IsRight app state → StandsForState app (keeping_all app state) state
+KeepingAllStands = (app : Shape) → IsProper app → (state : SessionState) → IsRight app state → StandsWholly app (keeping_all app state) state
 
 abbrev pub NoneIsMissing : Type 0
 NoneIsMissing = (app : Shape) (state : SessionState) → missing_readers app (keeping_all app state) state ≡ 0

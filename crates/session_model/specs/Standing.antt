@@ -49,19 +49,23 @@ pub record IsKeptRight (app : Shape) (session : KeptSession) (state : SessionSta
   pub dependencies : (kept_reader session n).state.dependencies ≡ (reader_state state n).dependencies
   pub outcome : (i : Node) → reader app n ≡ Some i → is_evaluated i ≡ true → (kept_reader session n).outcome ≡ fresh_outcome app state.values (isolated_of state) n
 
--- An expression without a site may be missing in the session: a hit in the cache leaves a body unevaluated, and with it
--- the expressions that the body reads.
+-- What is kept for the readers is that of the state. An expression without a site may be missing in the session: a hit in
+-- the cache leaves a body unevaluated, and with it the expressions that the body reads.
 pub record StandsForState (app : Shape) (session : KeptSession) (state : SessionState) : Type 0 where
   pub values : session.values ≡ state.values
-  pub boards : session.boards ≡ state.boards
   pub isolated : (n : ℕ) → (kept_reader session n).state.isolated ≡ (reader_state state n).isolated
-  pub shown : (n : ℕ) → (kept_reader session n).state.shown ≡ (reader_state state n).shown
-  pub last : (n : ℕ) → (kept_reader session n).state.last ≡ (reader_state state n).last
   pub consistent : IsConsistent app state
   pub right : (n : ℕ) → is_alive (kept_reader session n).state ≡ true → IsKeptRight app session state n
   pub ran : (n : ℕ) → has_run (kept_reader session n).state ≡ true → has_run (reader_state state n) ≡ true
   pub keeps : (n : ℕ) → is_alive (reader_state state n) ≡ true → (is_alive (kept_reader session n).state ≡ true) ⊎ (is_bare (reader app n) ≡ true)
   pub has : (n : ℕ) → has_run (reader_state state n) ≡ true → (has_run (kept_reader session n).state ≡ true) ⊎ (is_bare (reader app n) ≡ true)
+
+-- and so are the tasks' boards, which outputs are shown, and their last outcomes, which the flush looks after
+pub record StandsWholly (app : Shape) (session : KeptSession) (state : SessionState) : Type 0 where
+  pub stands : StandsForState app session state
+  pub boards : session.boards ≡ state.boards
+  pub shown : (n : ℕ) → (kept_reader session n).state.shown ≡ (reader_state state n).shown
+  pub last : (n : ℕ) → (kept_reader session n).state.last ≡ (reader_state state n).last
 
 -- ---- how many readers are missing
 
