@@ -15,4 +15,3 @@ mod tests;
 pub use answer::{BookClaim, Filled};
 pub use book::Book;
 pub use limits::CacheLimits;
-pub use shelf::Shelf;

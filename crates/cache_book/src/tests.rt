@@ -1,4 +1,5 @@
-use crate::{Book, BookClaim, CacheLimits, Filled, Shelf};
+use crate::shelf::Shelf;
+use crate::{Book, BookClaim, CacheLimits, Filled};
 use rx_value::{Key, Memory, Outcome, RxText, Value, Values};
 use std::alloc::Global;
 use std::marker::Send;
@@ -283,6 +284,63 @@ fn an_empty_shelf_is_within_all_limits(rt: HostRuntime) -> Result<(), Fail> {
         })
     );
     assert_eq!(rt; shelf.len(), 0);
+    Ok(())
+}
+
+/// As [`tell`], tried again where there was no memory for the key or the outcome of the call.
+fn tell_again(alloc: Global, book: &mut Book, call: Call) -> Result<Told, Memory> {
+    match tell(alloc, book, call) {
+        Ok(told) => Ok(told),
+        Err(Memory) => tell(alloc, book, call),
+    }
+}
+
+/// Whether a call is answered so. Without memory a claim changes nothing, and a fill only takes its
+/// key out of flight: so the call is made again, which has to be answered so.
+fn answers(alloc: Global, book: &mut Book, call: Call, want: Told) -> Result<bool, Memory> {
+    let count = book.len();
+    let told = tell_again(alloc, book, call)?;
+    if told == want {
+        return Ok(true);
+    }
+    let is_open = match (told, call) {
+        (Told::NoMemory, Call::Claim(..)) => true,
+        (
+            Told::Filled(Filled::Dropped),
+            Call::Fill(number, owner, _) | Call::FillText(number, owner, _),
+        ) => tell_again(alloc, book, Call::Claim(number, owner))? == Told::Mine,
+        _ => false,
+    };
+    Ok(is_open && book.len() == count && tell_again(alloc, book, call)? == want)
+}
+
+#[test]
+fn a_call_without_memory_leaves_the_entries(rt: HostRuntime) -> Result<(), Fail> {
+    let alloc = rt.alloc();
+    let calls = [
+        (Call::Claim(1, 0), Told::Mine),
+        (Call::Claim(2, 1), Told::Mine),
+        (Call::Claim(1, 2), Told::Busy(0)),
+        (Call::FillText(1, 0, 8), Told::Filled(Filled::Stored(0))),
+        (Call::Abandon(2, 1), Told::Abandoned),
+        (Call::Claim(2, 3), Told::Mine),
+        (Call::Fill(2, 3, 7), Told::Filled(Filled::Stored(0))),
+        (Call::Claim(1, 4), Told::OtherHit),
+        (Call::Claim(3, 5), Told::Mine),
+        (Call::Claim(2, 6), Told::Hit(7)),
+        (Call::Fill(3, 5, 8), Told::Filled(Filled::Stored(1))),
+        (Call::Claim(2, 7), Told::Hit(7)),
+        (Call::Claim(1, 8), Told::Mine),
+        (Call::Claim(3, 9), Told::Hit(8)),
+    ];
+    let mut book = match Book::new(alloc, 2, 100) {
+        Ok(book) => book,
+        Err(Memory) => Book::new(alloc, 2, 100)?,
+    };
+    for (call, want) in calls {
+        assert!(rt; answers(alloc, &mut book, call, want)?);
+    }
+    assert_eq!(rt; book.len(), 2);
     Ok(())
 }
 

@@ -37,7 +37,8 @@ impl Model for Pending {
 }
 
 impl Pending {
-    /// The empty set of the numbers below the count of priorities.
+    /// The empty set of the numbers below the count of priorities, by number. The count is one of 32
+    /// bits, as each number is.
     pub fn new(alloc: Global, priorities: &[i64]) -> Result<Pending, Memory>
         requires { length priorities.now < 2 ^ 32 }
         ensures { IfOk result (λ p. p ≡ none_waiting priorities.now) }
