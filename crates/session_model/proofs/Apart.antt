@@ -1,15 +1,17 @@
 -- The sessions of a transcript stand apart.
 use Rattle.std.proofs.Common.{◌≡◌, ℕ, suc, Bool, true, false, List, [], ◌∷◌, ◌++◌, filter, length, Option, Some, None, bytes_eq, nat_le, refl, sym, ◌∙◌, ap, subst}
-use Rattle.std.specs.Prelude.{if◌then◌else◌}
+use Rattle.std.specs.Prelude.{option_map, codes, if◌then◌else◌}
 use Rattle.std.proofs.lemmas.Slice.Eq.{bytes_eq-Decides}
 use Rattle.task_board.specs.Board.{board_at, running_number}
 use Rattle.app_tree.specs.Tree.{Shape}
 use Rattle.session_model.specs.declared.event.Event.{Event}
 use Rattle.session_model.specs.declared.event.Event.TheVariants.{Text, TaskEnd, End}
-use Rattle.session_model.specs.Alone.{state_after}
+use Rattle.session_model.specs.AskedLaws.{Every}
+use Rattle.session_model.specs.Alone.{Ending, ending, state_after}
 use Rattle.session_model.specs.Lines.{lines_of}
-use Rattle.session_model.specs.Transcript.{line_past_limit, session_limit, Line, recv, ends, closes, line_of, Open, opened, is_over, session_of, with_session, is_full, Stepped, step_by, step, done, Replayed, after_output, Rest, stepped, taken, opens, received, closed, task_ended, task_end_of, ended_in, replay_line, closing_output, all_closed, is_line, replay_from, replayed}
-use Rattle.session_model.specs.Apart.{is_said_to, lines_for, alone, Piece, joined, pieces_for, IsInterleaved, LinesInterleave, TranscriptsInterleave}
+use Rattle.session_model.specs.Output.{send_lines}
+use Rattle.session_model.specs.Transcript.{line_past_limit, session_limit, Line, recv, ends, closes, line_of, Open, opened, is_over, session_of, with_session, is_full, Stepped, step_by, step, done, Replayed, after_output, Rest, stepped, taken, opens, received, closed, task_ended, task_end_of, ended_in, replay_line, closing_output, all_closed, added_texts, with_event, ending_text, over_line, is_line, replay_from, replayed}
+use Rattle.session_model.specs.Apart.{is_said_to, lines_for, alone, Piece, joined, pieces_for, last_line, IsOfLines, IsInterleaved, LinesInterleave, TranscriptsInterleave}
 
 -- ---- the sessions of one label
 
@@ -96,8 +98,33 @@ record IsTaken (app : Shape) (k : ℕ) (sessions : List Open) (said : Option Lin
   after : Stepped
   said_to : (other : List ℕ) → is_said_to other said ≡ bytes_eq other label
   keeps : after.session.label ≡ label
+  lines : IsOfLines (record { label = label; bytes = after.output })
   goes_on : replay_line app k sessions said next ≡ stepped sessions after next
   goes_alone : (j : ℕ) (rest : Rest) → replay_line app j (sessions_for label sessions) said rest ≡ stepped (sessions_for label sessions) after rest
+
+-- ---- what a step writes is whole lines
+
+ending_lines : (label : List ℕ) (o : Option Ending) → over_line label o ≡ last_line label (option_map ending_text o)
+ending_lines label None = refl
+ending_lines label (Some end) = refl
+
+step_lines_by : (full : Bool) (app : Shape) (event : Event) (s : Open) → IsOfLines (record { label = s.label; bytes = (step_by full app event s).output })
+step_lines_by true app event s = record { texts = []; end = Some (codes "journal"); lines = refl }
+step_lines_by false app event s = record {
+  texts = added_texts app s.label s.journal (with_event event s).journal;
+  end = option_map ending_text (ending app (with_event event s).journal);
+  lines = ap (λ l. send_lines s.label (added_texts app s.label s.journal (with_event event s).journal) ++ l) (ending_lines s.label (ending app (with_event event s).journal));
+}
+
+step_lines : (app : Shape) (event : Event) (s : Open) → IsOfLines (record { label = s.label; bytes = (step app event s).output })
+step_lines app event s = step_lines_by (is_full s.journal) app event s
+
+found_lines : (app : Shape) (event : Event) (s : Open) (label : List ℕ) → s.label ≡ label → IsOfLines (record { label = label; bytes = (step app event s).output })
+found_lines app event s label same = subst (λ (l : List ℕ). IsOfLines (record { label = l; bytes = (step app event s).output })) same (step_lines app event s)
+
+closing_lines : (app : Shape) (s : Open) (over : Bool) → IsOfLines (record { label = s.label; bytes = closing_output app s over })
+closing_lines app s true = record { texts = []; end = None; lines = refl }
+closing_lines app s false = step_lines app End s
 
 module _ (app : Shape) (k : ℕ) (sessions : List Open) (next : Rest) where
   opens_taken : (label t : List ℕ) → session_of label sessions ≡ None → (full : Bool) → nat_le session_limit (length sessions) ≡ full
@@ -108,6 +135,7 @@ module _ (app : Shape) (k : ℕ) (sessions : List Open) (next : Rest) where
     after = step app (Text t) (opened label);
     said_to = λ other. refl;
     keeps = label_kept app (Text t) (opened label);
+    lines = step_lines app (Text t) (opened label);
     goes_on = ap (λ o. received app k sessions (Text t) label o next) none ∙ ap (λ b. opens b app k sessions (Text t) label next) full;
     goes_alone = λ j rest.
         ap (λ o. received app j (sessions_for label sessions) (Text t) label o rest) (same_session label sessions ∙ none)
@@ -122,6 +150,7 @@ module _ (app : Shape) (k : ℕ) (sessions : List Open) (next : Rest) where
     after = step app (Text t) s;
     said_to = λ other. refl;
     keeps = label_kept app (Text t) s ∙ found_label label sessions s found;
+    lines = found_lines app (Text t) s label (found_label label sessions s found);
     goes_on = ap (λ o. received app k sessions (Text t) label o next) found ∙ ap (λ b. taken app k sessions (Text t) s b next) over;
     goes_alone = λ j rest.
         ap (λ o. received app j (sessions_for label sessions) (Text t) label o rest) (same_session label sessions ∙ found)
@@ -141,6 +170,7 @@ module _ (app : Shape) (k : ℕ) (sessions : List Open) (next : Rest) where
     after = step app End s;
     said_to = λ other. refl;
     keeps = label_kept app End s ∙ found_label label sessions s found;
+    lines = found_lines app End s label (found_label label sessions s found);
     goes_on = ap (λ o. closed app k sessions o next) found ∙ ap (λ b. taken app k sessions End s b next) over;
     goes_alone = λ j rest.
         ap (λ o. closed app j (sessions_for label sessions) o rest) (same_session label sessions ∙ found)
@@ -163,6 +193,7 @@ module _ (app : Shape) (k : ℕ) (sessions : List Open) (next : Rest) where
     after = step app (TaskEnd t number) s;
     said_to = λ other. refl;
     keeps = label_kept app (TaskEnd t number) s ∙ found_label label sessions s found;
+    lines = found_lines app (TaskEnd t number) s label (found_label label sessions s found);
     goes_on =
         ap (λ o. ended_in app k sessions t o next) found
         ∙ ap (λ b. task_end_of app k sessions t s b next) over
@@ -193,6 +224,7 @@ module _ (app : Shape) (k : ℕ) (sessions : List Open) (next : Rest) where
 -- from these sessions on: the output is made of pieces, and so is that of each label's lines from the sessions of that label
 record Parts (app : Shape) (sessions : List Open) (lines : List (List ℕ)) (output : List ℕ) : Type 0 where
   pieces : List Piece
+  own : Every IsOfLines pieces
   whole : output ≡ joined pieces
   parts : (label : List ℕ) (j : ℕ) → replay_from app j None (sessions_for label sessions) (lines_for app label lines) ≡ record { output = joined (pieces_for label pieces); end = done }
 
@@ -216,9 +248,15 @@ closing_for app label (s ∷ more) = decide (bytes_eq label s.label) refl (closi
     decide true b rest = rw (← b) (ap (λ l. record { label = s.label; bytes = closing_output app s (is_over app s) } ∷ l) rest)
     decide false b rest = rw (← b) rest
 
+all_closing_lines : (app : Shape) (sessions : List Open) → Every IsOfLines (closing app sessions)
+unfolding closing
+all_closing_lines app [] = tt
+all_closing_lines app (s ∷ more) = (closing_lines app s (is_over app s), all_closing_lines app more)
+
 at_end : (app : Shape) (sessions : List Open) → Parts app sessions [] (all_closed app sessions)
 at_end app sessions = record {
   pieces = closing app sessions;
+  own = all_closing_lines app sessions;
   whole = closing_joined app sessions;
   parts = λ label j. ap (λ l. record { output = l; end = done }) (closing_joined app (sessions_for label sessions) ∙ ap joined (sym (closing_for app label sessions)));
 }
@@ -249,6 +287,7 @@ module _ (app : Shape) (sessions : List Open) (line : List ℕ) (more : List (Li
   unfolding first
   one_more = record {
     pieces = first ∷ rest.pieces;
+    own = (t.lines, rest.own);
     whole = ap (λ (r : Replayed). r.output) t.goes_on ∙ ap (λ l. t.after.output ++ l) rest.whole;
     parts = λ label j. part_of label j (bytes_eq label t.label) refl;
   }
@@ -273,6 +312,7 @@ interleaves app k past sessions (line ∷ more) e = decide (is_line k past) (λ 
 from_parts : (app : Shape) (lines : List (List ℕ)) (output : List ℕ) → Parts app [] lines output → IsInterleaved app lines output
 from_parts app lines output p = record {
   pieces = p.pieces;
+  own = p.own;
   whole = p.whole;
   taken = λ label. ap (λ (r : Replayed). r.end) (p.parts label 1);
   parts = λ label. ap (λ (r : Replayed). r.output) (p.parts label 1);

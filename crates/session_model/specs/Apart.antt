@@ -2,6 +2,8 @@
 use Rattle.std.specs.Prelude.{◌≡◌, ℕ, Bool, false, List, [], ◌∷◌, ◌++◌, filter, Option, Some, None, bytes_eq}
 use Rattle.app_tree.specs.Tree.{Shape}
 use Rattle.session_model.specs.Lines.{lines_of}
+use Rattle.session_model.specs.AskedLaws.{Every}
+use Rattle.session_model.specs.Output.{send_lines, over_text}
 use Rattle.session_model.specs.Transcript.{Line, recv, ends, closes, line_of, done, Replayed, replay_from, replayed}
 
 -- ---- a session's lines
@@ -37,12 +39,24 @@ joined (piece ∷ more) = piece.bytes ++ joined more
 abbrev pub pieces_for : List ℕ → List Piece → List Piece
 pieces_for label pieces = filter (λ piece. bytes_eq label piece.label) pieces
 
+-- the last line of a session that has ended
+abbrev pub last_line : List ℕ → Option (List ℕ) → List ℕ
+last_line label None = []
+last_line label (Some reason) = over_text label reason
+
+-- a piece is whole lines of its session: those of the texts that are sent, and the last one where the session has ended
+pub record IsOfLines (piece : Piece) : Type 0 where
+  pub texts : List (List ℕ)
+  pub end : Option (List ℕ)
+  pub lines : piece.bytes ≡ send_lines piece.label texts ++ last_line piece.label end
+
 -- ---- the law
 
 -- the output is made of pieces; each session's lines, replayed without those of the others, are taken too, and their
 -- output is made of the pieces for that session
 pub record IsInterleaved (app : Shape) (lines : List (List ℕ)) (output : List ℕ) : Type 0 where
   pub pieces : List Piece
+  pub own : Every IsOfLines pieces
   pub whole : output ≡ joined pieces
   pub taken : (label : List ℕ) → (alone app (lines_for app label lines)).end ≡ done
   pub parts : (label : List ℕ) → (alone app (lines_for app label lines)).output ≡ joined (pieces_for label pieces)
