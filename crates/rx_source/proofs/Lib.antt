@@ -1,3 +1,4 @@
 pub mod Passed
 pub mod Sizes
 pub mod Samples
+pub mod SameValues

@@ -1,4 +1,4 @@
-ghost use Rattle.std.specs.Prelude.{◌≡◌, ◌≢◌, ◌<◌, length, Some, true, false, slice_get, slice_set, IfOk};
+ghost use Rattle.std.specs.Prelude.{◌≡◌, ◌≢◌, ◌<◌, ◌↔◌, length, Some, true, false, slice_get, slice_set, IfOk};
 ghost use Rattle.rx_value.specs.Value.{source_eq};
 ghost use Rattle.app_tree.specs.View.{shape_of};
 ghost use Rattle.app_tree.specs.Numbering.{starting_values};
@@ -71,10 +71,11 @@ impl Sources {
     pub fn set(&mut self, source: u32, value: SourceValue) -> Change
         requires { source < length self.old.values }
         ensures answer { result ≡ change_of (source_eq (value_at self.old.values source) value) }
+        ensures equal { (result ≡ Change.Same) ↔ (value_at self.old.values source ≡ value) }
         ensures same { result ≡ Change.Same → self.new ≡ self.old }
         ensures changed { result ≡ Change.Changed → self.new ≡ record self.old { values = slice_set self.old.values source value } }
     {
-        if self.values[source as usize].same(&value) {
+        if self.get(source).same(&value) {
             return Change::Same;
         }
         self.values[source as usize] = value;
