@@ -135,8 +135,12 @@ fn sets_sources_and_tells_whether_they_changed(rt: HostRuntime) -> Result<(), Fa
         (0, SourceValue::Plain(Value::Int(7)), Change::Same),
         (0, SourceValue::Frozen(Value::Int(7)), Change::Changed),
         (0, SourceValue::Frozen(Value::Int(7)), Change::Same),
+        (0, SourceValue::Plain(Value::Int(7)), Change::Changed),
+        (0, SourceValue::Frozen(Value::Int(7)), Change::Changed),
+        (2, SourceValue::Task(TaskView::Initial), Change::Same),
         (2, SourceValue::Task(running), Change::Changed),
         (2, SourceValue::Task(ended), Change::Changed),
+        (3, SourceValue::Plain(Value::Null), Change::Same),
         (3, SourceValue::Plain(Value::Int(400)), Change::Changed),
         (6, SourceValue::Plain(Value::Int(300)), Change::Changed),
     ];

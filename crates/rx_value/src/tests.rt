@@ -1,4 +1,6 @@
-use crate::{Key, Memory, Outcome, RxInts, RxText, SourceValue, TaskView, Value, Values, show};
+use crate::{
+    Failure, Key, Memory, Outcome, RxInts, RxText, SourceValue, TaskView, Value, Values, show,
+};
 use std::alloc::Global;
 use std::collections::HashMap;
 use std::test::Fail;
@@ -72,6 +74,61 @@ fn texts_and_lists_grow(rt: HostRuntime) -> Result<(), Fail> {
     assert_eq!(rt; *list.get(0), 4);
     list.set(1, -6);
     assert_eq!(rt; list.copy(alloc)?.as_slice(), [4, -6].as_slice());
+    Ok(())
+}
+
+#[test]
+fn lists_of_values_grow_and_are_copied(rt: HostRuntime) -> Result<(), Fail> {
+    let alloc = rt.alloc();
+    let mut list = Values::new(alloc);
+    list.push(text_of(alloc, "a")?)?;
+    list.push(Value::Bool(true))?;
+    let mut copy = list.copy_values(alloc)?;
+    copy.set(1, Value::Null);
+    assert!(rt; list.len() == 2 && copy.len() == 2);
+    assert!(rt; copy.get(0).same(list.get(0)));
+    assert!(rt; !copy.get(1).same(list.get(1)));
+    Ok(())
+}
+
+#[test]
+fn lists_numbers_and_null_have_numbers(rt: HostRuntime) -> Result<(), Fail> {
+    let rows = [
+        ("NULL", Some(0)),
+        ("-7", Some(1)),
+        ("c", Some(0)),
+        ("c 4 5 6", Some(3)),
+        ("TRUE", None),
+        ("'4", None),
+    ];
+    for (words, want) in rows {
+        let value = value_of(rt.alloc(), words)?;
+        assert_eq!(rt;
+            value.numbers().map(|numbers| numbers.len()),
+            want,
+            "{words}"
+        );
+    }
+    Ok(())
+}
+
+#[test]
+fn each_failure_is_told_by_its_text(rt: HostRuntime) -> Result<(), Fail> {
+    let rows = [
+        (Failure::NumberOutOfRange, "number out of range"),
+        (Failure::DivisionByZero, "division by zero"),
+        (Failure::WrongKind, "wrong kind of value"),
+        (Failure::NotACondition, "condition is not true or false"),
+        (Failure::IndexOutOfRange, "index out of range"),
+        (Failure::ListTooLong, "list too long"),
+        (Failure::TextTooLong, "text too long"),
+        (Failure::PlotSizeOutOfRange, "plot size out of range"),
+    ];
+    for (failure, want) in rows {
+        assert_eq!(rt; failure.text(), want);
+        let failed = Outcome::Fail(RxText::from_str(rt.alloc(), want)?);
+        assert!(rt; failure.outcome(rt.alloc())?.same(&failed), "{want}");
+    }
     Ok(())
 }
 
@@ -191,6 +248,33 @@ fn the_longest_list_is_shown_in_20999_bytes(rt: HostRuntime) -> Result<(), Fail>
         list.push(i64::MIN)?;
     }
     assert_eq!(rt; show(rt.alloc(), &Value::Ints(list))?.len(), 20_999);
+    Ok(())
+}
+
+#[test]
+fn views_of_a_task_are_told_apart_by_kind_and_content(rt: HostRuntime) -> Result<(), Fail> {
+    let rows = [
+        (TaskView::Running, TaskView::Running, true),
+        (TaskView::Initial, TaskView::Running, false),
+        (
+            TaskView::Success(Value::Int(1)),
+            TaskView::Success(Value::Int(1)),
+            true,
+        ),
+        (
+            TaskView::Success(Value::Int(1)),
+            TaskView::Success(Value::Int(2)),
+            false,
+        ),
+        (
+            TaskView::Error(Outcome::Stop),
+            TaskView::Error(Outcome::Cancel),
+            false,
+        ),
+    ];
+    for (first, second, want) in &rows {
+        assert_eq!(rt; first.same(second), *want, "{first:?} {second:?}");
+    }
     Ok(())
 }
 
