@@ -35,13 +35,16 @@ fn repeated(alloc: Global, character: char, times: u32) -> Result<Value, Memory>
     Ok(Value::Text(text))
 }
 
-/// `NULL`, `TRUE`, a number, or else a text.
+/// `NULL`, `TRUE`, the empty list `c()`, a number, or else a text.
 fn value_of(alloc: Global, word: &str) -> Result<Value, Memory> {
     if word == "NULL" {
         return Ok(Value::Null);
     }
     if word == "TRUE" {
         return Ok(Value::Bool(true));
+    }
+    if word == "c()" {
+        return Ok(Value::Ints(RxInts::new(alloc)));
     }
     match word.parse::<i64>() {
         Ok(number) => Ok(Value::Int(number)),
@@ -249,6 +252,24 @@ fn draws_lines_and_points(rt: HostRuntime) -> Result<(), Fail> {
             "9223372036854775807 9223372036854775806 1 0",
             "<polyline points=\"10,30 24,31 39,90 54,90\" fill=\"none\" stroke=\"black\"/>",
         ),
+        (
+            Plot::Lines,
+            120,
+            "5 5 5",
+            "<polyline points=\"10,30 60,30 110,30\" fill=\"none\" stroke=\"black\"/>",
+        ),
+        (
+            Plot::Lines,
+            120,
+            "0 0",
+            "<polyline points=\"10,90 110,90\" fill=\"none\" stroke=\"black\"/>",
+        ),
+        (
+            Plot::Lines,
+            120,
+            "-1 -3",
+            "<polyline points=\"10,50 110,90\" fill=\"none\" stroke=\"black\"/>",
+        ),
         (Plot::Points, 120, "", ""),
         (
             Plot::Points,
@@ -279,6 +300,12 @@ fn draws_lines_and_points(rt: HostRuntime) -> Result<(), Fail> {
             120,
             "-1 -3",
             "<circle cx=\"10\" cy=\"50\" r=\"3\"/><circle cx=\"110\" cy=\"90\" r=\"3\"/>",
+        ),
+        (
+            Plot::Points,
+            120,
+            "-9223372036854775808 0 9223372036854775807",
+            "<circle cx=\"10\" cy=\"90\" r=\"3\"/><circle cx=\"60\" cy=\"60\" r=\"3\"/><circle cx=\"110\" cy=\"30\" r=\"3\"/>",
         ),
     ];
     for (plot, width, numbers, marks) in rows {
@@ -368,6 +395,22 @@ fn drawn_of(
 fn refuses_kinds_before_sizes(rt: HostRuntime) -> Result<(), Fail> {
     let alloc = rt.alloc();
     let rows = [
+        (
+            Plot::Bars,
+            "63",
+            "64",
+            "",
+            "c()",
+            "failure: plot size out of range",
+        ),
+        (
+            Plot::Bars,
+            "NULL",
+            "64",
+            "",
+            "c()",
+            "failure: wrong kind of value",
+        ),
         (
             Plot::Bars,
             "63",
@@ -493,34 +536,49 @@ fn refuses_kinds_before_sizes(rt: HostRuntime) -> Result<(), Fail> {
 #[test]
 fn limits_the_text(rt: HostRuntime) -> Result<(), Fail> {
     let alloc = rt.alloc();
-    let too_long = "failure: text too long".len();
+    let too_long = "failure: text too long";
+    // without its title and marks a text has 96 bytes; a lone bar has 44, a line 53, a circle 31
     let rows = [
-        (Plot::Bars, 64, 'a', 65440, 0, 65536),
-        (Plot::Lines, 64, 'a', 65441, 0, too_long),
-        (Plot::Points, 64, '&', 13088, 0, 65536),
-        (Plot::Bars, 64, '&', 13089, 0, too_long),
-        (Plot::Lines, 64, 'é', 32720, 0, 65536),
-        (Plot::Points, 64, 'é', 100000, 0, too_long),
-        (Plot::Bars, 64, 'a', 0, 5000, too_long),
-        (Plot::Lines, 64, 'a', 0, 20000, too_long),
-        (Plot::Points, 64, 'a', 0, 5000, too_long),
-        (
-            Plot::Bars,
-            63,
-            'a',
-            70000,
-            0,
-            "failure: plot size out of range".len(),
-        ),
+        (Plot::Bars, 'a', 65440, 0, "<svg "),
+        (Plot::Lines, 'a', 65441, 0, too_long),
+        (Plot::Points, '&', 13088, 0, "<svg "),
+        (Plot::Bars, '&', 13089, 0, too_long),
+        (Plot::Lines, 'é', 32720, 0, "<svg "),
+        (Plot::Points, 'é', 100000, 0, too_long),
+        (Plot::Bars, 'a', 65396, 1, "<svg "),
+        (Plot::Bars, 'a', 65397, 1, too_long),
+        (Plot::Lines, 'a', 65387, 1, "<svg "),
+        (Plot::Lines, 'a', 65388, 1, too_long),
+        (Plot::Points, 'a', 65409, 1, "<svg "),
+        (Plot::Points, 'a', 65410, 1, too_long),
+        (Plot::Bars, 'a', 0, 5000, too_long),
+        (Plot::Lines, 'a', 0, 20000, too_long),
+        (Plot::Points, 'a', 0, 5000, too_long),
     ];
-    for (plot, side, character, times, numbers, want) in rows {
-        let side = Value::Int(side);
+    let side = Value::Int(64);
+    for (plot, character, times, numbers, front) in rows {
         let title = repeated(alloc, character, times)?;
         let list = counted(alloc, numbers)?;
-        assert_eq!(rt;
-            shown(alloc, plot, (&side, &side), &title, &list)?.len(),
-            want
-        );
+        let text = shown(alloc, plot, (&side, &side), &title, &list)?;
+        let length = if front == too_long {
+            too_long.len()
+        } else {
+            65536
+        };
+        assert!(rt; text.as_str().starts_with(front));
+        assert_eq!(rt; text.len(), length);
     }
+    Ok(())
+}
+
+#[test]
+fn refuses_a_size_before_a_long_text(rt: HostRuntime) -> Result<(), Fail> {
+    let alloc = rt.alloc();
+    let side = Value::Int(63);
+    let title = repeated(alloc, 'a', 70000)?;
+    assert_eq!(rt;
+        shown(alloc, Plot::Bars, (&side, &side), &title, &Value::Null)?.as_str(),
+        "failure: plot size out of range"
+    );
     Ok(())
 }
