@@ -9,7 +9,7 @@ use Rattle.rx_value.specs.Operators.{unary_result, binary_result}
 use Rattle.app_tree.specs.declared.term.Operator.{Operator}
 use Rattle.app_tree.specs.declared.term.Operator.TheVariants as operator
 use Rattle.app_tree.specs.Tree.{Tree, constant, group, get, variable, isolate, stop, require, fold, unary, binary, choice, call, Trees, no_trees, tree}
-use Rattle.app_tree.specs.Evaluate.{Answers, Asked, reads, given, enters, leaves, Evaluation, Meaning, plain, read_of, then_by, then_with, wanted_bool, decided_by, operated, chosen_by, called, stopped, required, over_each, over_list, at_site, evaluate, evaluate_all}
+use Rattle.app_tree.specs.Evaluate.{Answers, Asked, reads, enters, leaves, Evaluation, Meaning, plain, then_by, then_with, wanted_bool, decided_by, operated, chosen_by, called, stopped, required, over_each, over_list, at_site, evaluate, evaluate_all}
 use Rattle.session_model.specs.AskedLaws.{Every, IsAnsweredAlike, EqualAnswersGiveEqual}
 
 pub front : {A : Type 0} (P : A → Type 0) (xs ys : List A) → Every P (xs ++ ys) → Every P xs

@@ -7,14 +7,11 @@
 #![tactic(auto)]
 
 mod event;
-mod examples;
 mod laws;
 mod state;
+mod taken;
 
 pub use event::Event;
-pub use examples::{
-    refuses_a_line, replays_a_transcript, shows_a_changed_input, shows_an_empty_app,
-    shows_an_equal_input,
-};
 pub use laws::{change_laws, evaluation_laws, flush_laws, journal_laws};
 pub use state::{Dependencies, ReaderState};
+pub use taken::taken_is_whole;
