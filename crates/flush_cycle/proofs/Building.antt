@@ -1,15 +1,16 @@
 -- What is known of the items of an app that is run today.
-use Rattle.std.proofs.Common.{◌≡◌, ℕ, zero, suc, ◌≤◌, length, arith, ℤ, Bool, true, false, List, [], ◌∷◌, ◌++◌, map, filter, Option, Some, None, refl, sym, ap, ◌∙◌, append-nil}
+use Rattle.std.proofs.Common.{◌≡◌, ℕ, zero, suc, ◌≤◌, length, arith, Bool, true, false, List, [], ◌∷◌, filter, drop, Option, Some, None, refl, sym, ap, ◌∙◌}
 use Rattle.std.specs.Prelude.{pos, not, ◌&&◌, is_some, slice_get, if◌then◌else◌}
 use Rattle.std.specs.Ordering.{int_eq}
 use Rattle.std.proofs.lemmas.Bool.Decides.{Decides-int_eq}
-use Rattle.rx_value.specs.declared.value.Value.{Value}
-use Rattle.rx_value.specs.declared.source.SourceValue.{SourceValue}
 use Rattle.app_tree.specs.declared.term.Read.TheVariants as read
 use Rattle.app_tree.specs.declared.term.Term.{Term}
 use Rattle.app_tree.specs.View.{trees_of_terms}
 use Rattle.app_tree.specs.Tree.{Tree, constant, group, get, variable, isolate, stop, require, fold, unary, binary, choice, call, Trees, no_trees, tree, Shown, Node, input, value, task, reactive, event, text, plot, observe, on}
-use Rattle.app_tree.specs.Numbering.{name_of, is_reader, is_input, is_value, is_task, declared_value, unknown_sizes, starting_values}
+use Rattle.app_tree.specs.Numbering.{name_of, is_reader}
+use Rattle.session_model.specs.AskedLaws.{Every}
+use Rattle.session_model.specs.State.{first_boards}
+use Rattle.session_model.specs.Flush.{priority_of}
 use Rattle.flush_cycle.specs.Built.{is_uncached, is_plain, input_read, shown_input, plain_shown, is_built, unbuilt_from, first_unbuilt, input_of_output}
 
 first_true : (a b : Bool) → (a && b) ≡ true → a ≡ true
@@ -118,3 +119,65 @@ built_from n (j ∷ items) (suc p) i h e = built_from (suc n) items p i (rest_bu
 
 pub built_at : (items : List Node) (p : ℕ) (i : Node) → first_unbuilt items ≡ None → slice_get items p ≡ Some i → is_built i ≡ true
 built_at items p i h e = built_from 0 items p i h e
+
+-- ---- all of the items
+
+all_built : (n : ℕ) (items : List Node) → unbuilt_from n items ≡ None → Every (λ i. is_built i ≡ true) items
+all_built n [] h = tt
+all_built n (i ∷ items) h = (first_built n i items h, all_built (suc n) items (rest_built n i items h))
+
+-- no item has a priority
+abbrev pub IsOfNoPriority : Node → Type 0
+IsOfNoPriority i = priority_of i ≡ pos 0
+
+shown_priority : (shown : Shown) (o : Option ℕ) → shown_input shown ≡ o → is_some o ≡ true → shown.priority ≡ pos 0
+shown_priority shown None e h = cc
+shown_priority shown (Some s) e h = ap (λ (x : Shown). x.priority) (shown_is shown s e)
+
+no_priority : (i : Node) → is_built i ≡ true → IsOfNoPriority i
+no_priority (text name shown) h = shown_priority shown (shown_input shown) refl h
+no_priority (input name start) h = refl
+no_priority (value name start) h = cc
+no_priority (task name parameters body) h = cc
+no_priority (reactive name keys body) h = cc
+no_priority (event name flags t body) h = cc
+no_priority (plot name shown) h = cc
+no_priority (observe name priority block) h = cc
+no_priority (on name priority flags t block) h = cc
+
+no_priorities : (items : List Node) → Every (λ i. is_built i ≡ true) items → Every IsOfNoPriority items
+no_priorities [] h = tt
+no_priorities (i ∷ items) h = (no_priority i h.0, no_priorities items h.1)
+
+every_drop : {A : Type 0} (P : A → Type 0) (n : ℕ) (xs : List A) → Every P xs → Every P (drop n xs)
+every_drop P zero xs h = h
+every_drop P (suc n) [] h = tt
+every_drop P (suc n) (x ∷ xs) h = every_drop P n xs h.1
+
+every_kept : {A : Type 0} (P : A → Type 0) (b : Bool) (x : A) (xs : List A) → P x → Every P xs → Every P (if b then x ∷ xs else xs)
+every_kept P true x xs p h = (p, h)
+every_kept P false x xs p h = h
+
+every_filter : {A : Type 0} (P : A → Type 0) (f : A → Bool) (xs : List A) → Every P xs → Every P (filter f xs)
+every_filter P f [] h = tt
+every_filter P f (x ∷ xs) h = every_kept P (f x) x (filter f xs) h.0 (every_filter P f xs h.1)
+
+-- nor has a reader behind any place
+pub no_priority_behind : (items : List Node) (p : ℕ) → first_unbuilt items ≡ None → Every IsOfNoPriority (filter is_reader (drop p items))
+no_priority_behind items p h = every_filter IsOfNoPriority is_reader (drop p items) (every_drop IsOfNoPriority p items (no_priorities items (all_built 0 items h)))
+
+no_boards_of : (items : List Node) → Every (λ i. is_built i ≡ true) items → first_boards items ≡ []
+no_boards_of [] h = refl
+no_boards_of (input name start ∷ items) h = no_boards_of items h.1
+no_boards_of (text name shown ∷ items) h = no_boards_of items h.1
+no_boards_of (value name start ∷ items) h = absurd cc
+no_boards_of (task name parameters body ∷ items) h = absurd cc
+no_boards_of (reactive name keys body ∷ items) h = absurd cc
+no_boards_of (event name flags e body ∷ items) h = absurd cc
+no_boards_of (plot name shown ∷ items) h = absurd cc
+no_boards_of (observe name priority block ∷ items) h = absurd cc
+no_boards_of (on name priority flags e block ∷ items) h = absurd cc
+
+-- no item is a task
+pub no_boards : (items : List Node) → first_unbuilt items ≡ None → first_boards items ≡ []
+no_boards items h = no_boards_of items (all_built 0 items h)

@@ -1,6 +1,6 @@
 -- A flush that has come so far: what it has left to do gives what the whole flush gives.
-use Rattle.std.proofs.Common.{◌≡◌, ℕ, zero, suc, ◌-◌, ◌<◌, true, false, List, [], ◌∷◌, ◌++◌, length, take, drop, filter, Option, Some, None, refl, sym, ap, ◌∙◌, subst, arith, zero-add}
-use Rattle.std.specs.Prelude.{slice_get, slice_set, unwrap_or}
+use Rattle.std.proofs.Common.{◌≡◌, ℕ, zero, suc, ◌-◌, ◌<◌, true, false, List, [], ◌∷◌, ◌++◌, length, take, drop, filter, Some, None, refl, sym, ap, ◌∙◌, subst, arith, zero-add}
+use Rattle.std.specs.Prelude.{◌+◌, not, slice_get, slice_set, unwrap_or, option_map}
 use Rattle.std.proofs.lemmas.List.{length-set, take-set}
 use Rattle.std.proofs.lemmas.List.Elements.{filter-append}
 use Rattle.rx_value.specs.declared.outcome.Outcome.{Outcome}
@@ -10,23 +10,35 @@ use Rattle.app_tree.specs.declared.term.Read.TheVariants.{Input}
 use Rattle.app_tree.specs.Tree.{Node, text, Shape}
 use Rattle.app_tree.specs.Numbering.{is_reader, reader}
 use Rattle.app_tree.specs.Evaluate.{Answers, Evaluation, read_of}
-use Rattle.app_tree.specs.Fresh.{IsolatedOutcomes, kept_sites, answer_to, known_expressions, sources_of_reads, evaluate_node, fresh_evaluation}
+use Rattle.app_tree.specs.Fresh.{IsolatedOutcomes, kept_sites, answer_to, known_expressions, sources_of_reads, sources_read, evaluate_node, fresh_evaluation, fresh_outcome}
 use Rattle.shiny_json.specs.declared.batch.BatchOutput.{BatchOutput}
 use Rattle.session_model.specs.declared.state.ReaderState.{ReaderState}
-use Rattle.session_model.specs.State.{SessionState, first_reader, isolated_of}
-use Rattle.session_model.specs.EarlyRun.{run_reader, forgotten}
-use Rattle.session_model.specs.EarlyFlush.{Run, FlushEnd, done, budget_spent, flush_from, flush, flush_step, flush_end, waiting_from, next_waiting, with_last, run_of}
-use Rattle.session_model.specs.EarlyTexts.{name_at, batch_output, batch_outputs}
+use Rattle.session_model.specs.State.{SessionState, first_reader, isolated_of, has_run, reader_state, with_sources}
+use Rattle.session_model.specs.Run.{Ran, forgotten, read_node, finished, visit_expression, run_reader}
+use Rattle.session_model.specs.Flush.{Waiting, Run, Made, done, budget_spent, output_made, is_observer_at, make_by, make_run, failure_by, failure_of, after_failure, after_run, flushed_to, flush_from, flush, flush_step, flush_end, waiting_from, next_waiting}
+use Rattle.session_model.specs.Texts.{run_texts_of, output_of_run}
 use Rattle.flush_cycle.specs.State.{state_of}
-use Rattle.flush_cycle.specs.Passed.{IsPassed, WaitsAt, waits_at, passed_of, ran_reader, shown_output, shown_outcome}
-use Rattle.flush_cycle.specs.Built.{plain_shown}
+use Rattle.flush_cycle.specs.Passed.{IsPassed, WaitsAt, waits_at, IsShown, AreShown, Passes, ran_reader, shown_output, shown_outcome}
+use Rattle.flush_cycle.specs.Built.{plain_shown, first_unbuilt}
+use Rattle.flush_cycle.proofs.Building.{no_priority_behind}
 use Rattle.flush_cycle.proofs.Passing.{split_at, waiting-found, none_before}
 
 pub record Going (app : Shape) (values : List SourceValue) (start readers : List ReaderState) (left : ℕ) (outputs : List BatchOutput) (place number : ℕ) : Type 0 where
   pub passed : IsPassed app.items readers place number
   pub runs : List Run
-  pub told : batch_outputs app runs ≡ outputs
-  pub rest : flush_from app left (state_of values readers) runs ≡ flush app (state_of values start)
+  pub bodies : ℕ
+  pub shown : AreShown app runs outputs
+  pub rest : flush_from app left (state_of values readers) runs bodies ≡ flush app (state_of values start)
+
+-- nothing was run yet
+pub going_first : (app : Shape) (values : List SourceValue) (readers : List ReaderState) (left : ℕ) (outputs : List BatchOutput) → left ≡ app.budget → outputs ≡ [] → Going app values readers readers left outputs 0 0
+going_first app values readers left outputs budget none = record {
+  passed = record { counted = refl; within = omega arith; none_waits = refl };
+  runs = [];
+  bodies = 0;
+  shown = subst (AreShown app []) (sym none) tt;
+  rest = ap (λ n. flush_from app n (state_of values readers) [] 0) budget;
+}
 
 -- ---- one element of a list, changed by a function
 
@@ -56,8 +68,8 @@ slice_get-middle (y ∷ xs) x ys = slice_get-middle xs x ys
 abbrev sources_of : Shape → List SourceValue → IsolatedOutcomes → List Read → List ℕ
 sources_of app values isolated reads = sources_of_reads app (known_expressions app values (kept_sites isolated)) [] reads
 
-abbrev after_run : List ℕ → Outcome → ReaderState → ReaderState
-after_run sources outcome r = record { dependencies = Some (record { sources = sources; changed = false }); isolated = []; shown = r.shown; last = Some outcome }
+abbrev reader_after : List ℕ → Outcome → ReaderState → ReaderState
+reader_after sources outcome r = record { dependencies = Some (record { sources = sources; changed = false }); isolated = []; shown = r.shown; last = Some outcome }
 
 abbrev answers_at : Shape → List SourceValue → IsolatedOutcomes → ℕ → Answers
 answers_at app values isolated n = record { read = answer_to app values (known_expressions app values (kept_sites isolated)); site = kept_sites isolated n }
@@ -66,46 +78,72 @@ evaluation_is : (app : Shape) (values : List SourceValue) (isolated : IsolatedOu
     → fresh_evaluation app values isolated n ≡ read_of (answers_at app values isolated n) (Input s)
 evaluation_is app values isolated n name s e = ap (λ i. evaluate_node i (answers_at app values isolated n)) e
 
+-- a run of an output of today's form runs one body and visits nothing
+abbrev ran_plainly : Shape → ℕ → SessionState → Ran
+ran_plainly app n state = record {
+  state = with_sources n (sources_read app state.values (isolated_of state) n) state;
+  outcome = fresh_outcome app state.values (isolated_of state) n;
+  bodies = 1;
+}
+
+ran_is : (app : Shape) (n : ℕ) (state : SessionState) (name : List ℕ) (s : ℕ) → reader app n ≡ Some (text name (plain_shown s)) → run_reader app n state ≡ ran_plainly app n (forgotten n state)
+ran_is app n state name s e = ap (λ i. finished app n (read_node app (visit_expression app) n (not (has_run (reader_state state n))) i (forgotten n state))) e
+
 -- the state after a run of reader n, whose outcome is its last
-run_is : (app : Shape) (values : List SourceValue) (readers : List ReaderState) (n : ℕ) (name : List ℕ) (s : ℕ) → reader app n ≡ Some (text name (plain_shown s)) → n < length readers
-    → with_last n (run_reader app n (state_of values readers)) ≡ state_of values (slice_set readers n (ran_reader s values (unwrap_or (slice_get readers n) first_reader)))
-run_is app values readers n name s e lt =
+state_is : (app : Shape) (values : List SourceValue) (readers : List ReaderState) (n : ℕ) (name : List ℕ) (s : ℕ) → reader app n ≡ Some (text name (plain_shown s)) → n < length readers
+    → (output_made n (ran_plainly app n (forgotten n (state_of values readers)))).state ≡ state_of values (slice_set readers n (ran_reader s values (unwrap_or (slice_get readers n) first_reader)))
+state_is app values readers n name s e lt =
     let isolated = isolated_of (forgotten n (state_of values readers)) in
     let seen = fresh_evaluation app values isolated n in
     let forget : ReaderState → ReaderState = λ r. record r { isolated = [] } in
     let depend : ReaderState → ReaderState = λ r. record r { dependencies = Some (record { sources = sources_of app values isolated seen.outside; changed = false }) } in
     let keep : ReaderState → ReaderState = λ r. record r { last = Some seen.outcome } in
     ap (state_of values) (update-thrice n first_reader forget depend keep readers lt
-    ∙ ap (λ (e' : Evaluation). slice_set readers n (after_run (sources_of app values isolated e'.outside) e'.outcome (unwrap_or (slice_get readers n) first_reader))) (evaluation_is app values isolated n name s e))
+    ∙ ap (λ (e' : Evaluation). slice_set readers n (reader_after (sources_of app values isolated e'.outside) e'.outcome (unwrap_or (slice_get readers n) first_reader))) (evaluation_is app values isolated n name s e))
 
 outcome_is : (app : Shape) (values : List SourceValue) (readers : List ReaderState) (n : ℕ) (name : List ℕ) (s : ℕ) → reader app n ≡ Some (text name (plain_shown s))
-    → (run_reader app n (state_of values readers)).outcome ≡ shown_outcome s values
+    → (ran_plainly app n (forgotten n (state_of values readers))).outcome ≡ shown_outcome s values
 outcome_is app values readers n name s e = ap (λ (seen : Evaluation). seen.outcome) (evaluation_is app values (isolated_of (forgotten n (state_of values readers))) n name s e)
+
+abbrev run_of : ℕ → Outcome → Run
+run_of n outcome = record { number = n; outcome = outcome; messages = [] }
+
+-- what the flush makes of the reader that waits
+made_is : (app : Shape) (values : List SourceValue) (readers : List ReaderState) (n : ℕ) (name : List ℕ) (s : ℕ) → reader app n ≡ Some (text name (plain_shown s)) → n < length readers
+    → make_run app n (state_of values readers)
+    ≡ record { state = state_of values (slice_set readers n (ran_reader s values (unwrap_or (slice_get readers n) first_reader))); bodies = 1; run = run_of n (shown_outcome s values) }
+made_is app values readers n name s e lt =
+    let state = state_of values readers in
+    let after = state_is app values readers n name s e lt in
+    let outcome = outcome_is app values readers n name s e in
+    ap (λ i. make_by (is_observer_at i) app n state) e ∙ ap (output_made n) (ran_is app n state name s e)
+    ∙ (λ i. record { state = after i; bodies = 1; run = run_of n (outcome i) })
+
+no_failure : (app : Shape) (n : ℕ) (outcome : Outcome) (name : List ℕ) (s : ℕ) → reader app n ≡ Some (text name (plain_shown s)) → failure_of app (run_of n outcome) ≡ None
+no_failure app n outcome name s e = ap (λ i. failure_by (is_observer_at i) outcome) e
 
 -- ---- the end
 
-flush_done : (app : Shape) (left : ℕ) (state : SessionState) (runs : List Run) → next_waiting app state ≡ None → flush_from app left state runs ≡ record { state = state; runs = runs; end = done }
-flush_done app zero state runs e = ap (λ o. record { state = state; runs = runs; end = flush_end o }) e
-flush_done app (suc left) state runs e = ap (flush_step app (flush_from app left) state runs) e
-
-passed_is : (app : Shape) (state : SessionState) (runs : List Run) (end : FlushEnd) (outputs : List BatchOutput) → batch_outputs app runs ≡ outputs
-    → passed_of app (record { state = state; runs = runs; end = end }) ≡ record { state = state; outputs = outputs; end = end }
-passed_is app state runs end outputs e = ap (λ o. record { state = state; outputs = o; end = end }) e
+flush_done : (app : Shape) (left : ℕ) (state : SessionState) (runs : List Run) (bodies : ℕ) → next_waiting app state ≡ None → flush_from app left state runs bodies ≡ flushed_to done state runs bodies
+flush_done app zero state runs bodies e = ap (λ o. flushed_to (flush_end o) state runs bodies) e
+flush_done app (suc left) state runs bodies e = ap (flush_step app (flush_from app left) state runs bodies) e
 
 -- nothing waits any more
 pub all_done : (app : Shape) (values : List SourceValue) (start readers : List ReaderState) (left : ℕ) (outputs : List BatchOutput) (place number : ℕ) → Going app values start readers left outputs place number
-    → next_waiting app (state_of values readers) ≡ None → passed_of app (flush app (state_of values start)) ≡ record { state = state_of values readers; outputs = outputs; end = done }
+    → waiting_from 0 (filter is_reader app.items) readers ≡ None → Passes app (flush app (state_of values start)) (state_of values readers) outputs false
 all_done app values start readers left outputs place number g e =
-    ap (passed_of app) (sym g.rest ∙ flush_done app left (state_of values readers) g.runs e) ∙ passed_is app (state_of values readers) g.runs done outputs g.told
+    let none : next_waiting app (state_of values readers) ≡ None = ap (option_map (λ (w : Waiting). w.number)) e in
+    let last = sym g.rest ∙ flush_done app left (state_of values readers) g.runs g.bodies none in
+    subst (λ f. Passes app f (state_of values readers) outputs false) (sym last) (record { state = refl; shown = g.shown; end = refl })
 
 -- one still waits, and nothing is left of the budget
 pub all_spent : (app : Shape) (values : List SourceValue) (start readers : List ReaderState) (left : ℕ) (outputs : List BatchOutput) (place number n : ℕ) → Going app values start readers left outputs place number
-    → left ≡ 0 → next_waiting app (state_of values readers) ≡ Some n → passed_of app (flush app (state_of values start)) ≡ record { state = state_of values readers; outputs = outputs; end = budget_spent }
+    → left ≡ 0 → next_waiting app (state_of values readers) ≡ Some n → Passes app (flush app (state_of values start)) (state_of values readers) outputs true
 all_spent app values start readers left outputs place number n g none e =
     let state = state_of values readers in
-    let last : flush_from app left state g.runs ≡ record { state = state; runs = g.runs; end = budget_spent } =
-    ap (λ k. flush_from app k state g.runs) none ∙ ap (λ o. record { state = state; runs = g.runs; end = flush_end o }) e in
-    ap (passed_of app) (sym g.rest ∙ last) ∙ passed_is app state g.runs budget_spent outputs g.told
+    let last : flush app (state_of values start) ≡ flushed_to budget_spent state g.runs g.bodies =
+    sym g.rest ∙ ap (λ k. flush_from app k state g.runs g.bodies) none ∙ ap (λ o. flushed_to (flush_end o) state g.runs g.bodies) e in
+    subst (λ f. Passes app f state outputs true) (sym last) (record { state = refl; shown = g.shown; end = refl })
 
 -- ---- one more run
 
@@ -113,12 +151,13 @@ all_spent app values start readers left outputs place number n g none e =
 readers_round : (items : List Node) (p : ℕ) (name : List ℕ) (s : ℕ) → slice_get items p ≡ Some (text name (plain_shown s)) → filter is_reader items ≡ filter is_reader (take p items) ++ text name (plain_shown s) ∷ filter is_reader (drop (suc p) items)
 readers_round items p name s e = ap (filter is_reader) (split_at items p (text name (plain_shown s)) e) ∙ filter-append is_reader (take p items) (text name (plain_shown s) ∷ drop (suc p) items)
 
-pub next_is : (app : Shape) (values : List SourceValue) (readers : List ReaderState) (p n : ℕ) (name : List ℕ) (s : ℕ) → IsPassed app.items readers p n → WaitsAt app.items readers p n name s
+pub next_is : (app : Shape) (values : List SourceValue) (readers : List ReaderState) (p n : ℕ) (name : List ℕ) (s : ℕ) → first_unbuilt app.items ≡ None → IsPassed app.items readers p n → WaitsAt app.items readers p n name s
     → next_waiting app (state_of values readers) ≡ Some n
-next_is app values readers p n name s passed waits =
+next_is app values readers p n name s built passed waits =
     let before = filter is_reader (take p app.items) in
-    ap (λ l. waiting_from 0 l readers) (readers_round app.items p name s waits.item)
-    ∙ waiting-found 0 before name s (filter is_reader (drop (suc p) app.items)) readers (none_before app.items readers p n passed) (ap (waits_at readers) passed.counted ∙ waits.waits)
+    ap (option_map (λ (w : Waiting). w.number))
+    (ap (λ l. waiting_from 0 l readers) (readers_round app.items p name s waits.item)
+    ∙ waiting-found 0 before name s (filter is_reader (drop (suc p) app.items)) readers (no_priority_behind app.items (suc p) built) (none_before app.items readers p n passed) (ap (waits_at readers) passed.counted ∙ waits.waits))
     ∙ ap Some (zero-add (length before) ∙ passed.counted)
 
 reader_is : (app : Shape) (readers : List ReaderState) (p n : ℕ) (name : List ℕ) (s : ℕ) → IsPassed app.items readers p n → WaitsAt app.items readers p n name s → reader app n ≡ Some (text name (plain_shown s))
@@ -132,16 +171,28 @@ waits_within [] n e = cc
 waits_within (r ∷ readers) zero e = omega arith
 waits_within (r ∷ readers) (suc n) e = let less = waits_within readers n e in omega (arith, less)
 
-batch_outputs-append : (app : Shape) (runs : List Run) (run : Run) → batch_outputs app (runs ++ run ∷ []) ≡ batch_outputs app runs ++ batch_output app run ∷ []
-batch_outputs-append app [] run = refl
-batch_outputs-append app (other ∷ runs) run = ap (λ l. batch_output app other ∷ l) (batch_outputs-append app runs run)
+shown_more : (app : Shape) (runs : List Run) (outputs : List BatchOutput) (run : Run) (o : BatchOutput) → AreShown app runs outputs → IsShown app run o → AreShown app (runs ++ run ∷ []) (outputs ++ o ∷ [])
+shown_more app [] [] run o h one = (one, tt)
+shown_more app [] (p ∷ outputs) run o h one = absurd h
+shown_more app (r ∷ runs) [] run o h one = absurd h
+shown_more app (r ∷ runs) (p ∷ outputs) run o h one = (h.0, shown_more app runs outputs run o h.1 one)
 
-flush_more : (app : Shape) (left n : ℕ) (state : SessionState) (runs : List Run) → 0 < left → next_waiting app state ≡ Some n
-    → flush_from app left state runs ≡ flush_from app (left - 1) (with_last n (run_reader app n state)) (runs ++ run_of n (run_reader app n state) ∷ [])
-flush_more app zero n state runs h e = absurd (omega (arith, h))
-flush_more app (suc left) n state runs h e =
+-- the outcome of an output that shows an input
+is_shown : (app : Shape) (n : ℕ) (name : List ℕ) (s : ℕ) (values : List SourceValue) → reader app n ≡ Some (text name (plain_shown s)) → IsShown app (run_of n (shown_outcome s values)) (shown_output name s values)
+is_shown app n name s values e = record {
+  texts = ap run_texts_of e;
+  told = ap (λ i. output_of_run i (run_of n (shown_outcome s values))) e;
+  silent = refl;
+}
+
+flush_more : (app : Shape) (left n : ℕ) (state : SessionState) (runs : List Run) (bodies : ℕ) (made : Made) → 0 < left → next_waiting app state ≡ Some n → make_run app n state ≡ made → failure_of app made.run ≡ None
+    → flush_from app left state runs bodies ≡ flush_from app (left - 1) made.state (runs ++ made.run ∷ []) (bodies + made.bodies)
+flush_more app zero n state runs bodies made h e m none = absurd (omega (arith, h))
+flush_more app (suc left) n state runs bodies made h e m none =
     let same : suc left - 1 ≡ left = omega arith in
-    ap (flush_step app (flush_from app left) state runs) e ∙ sym (ap (λ k. flush_from app k (with_last n (run_reader app n state)) (runs ++ run_of n (run_reader app n state) ∷ [])) same)
+    ap (flush_step app (flush_from app left) state runs bodies) e ∙ ap (after_run app (flush_from app left) runs bodies) m
+    ∙ ap (λ why. after_failure why (flush_from app left) made.state (runs ++ made.run ∷ []) (bodies + made.bodies)) none
+    ∙ sym (ap (λ k. flush_from app k made.state (runs ++ made.run ∷ []) (bodies + made.bodies)) same)
 
 -- the state of the reader at the place doesn't matter to those before it
 passed_with : (items : List Node) (readers : List ReaderState) (p n : ℕ) (r : ReaderState) → IsPassed items readers p n → IsPassed items (slice_set readers n r) p n
@@ -152,23 +203,22 @@ passed_with items readers p n r h = record {
 }
 
 -- one that waits was run
-pub one_more : (app : Shape) (values : List SourceValue) (start readers : List ReaderState) (left : ℕ) (outputs : List BatchOutput) (place number : ℕ) (name : List ℕ) (s : ℕ)
+pub one_more : (app : Shape) (values : List SourceValue) (start readers : List ReaderState) (left : ℕ) (outputs : List BatchOutput) (place number : ℕ) (name : List ℕ) (s : ℕ) → first_unbuilt app.items ≡ None
     → Going app values start readers left outputs place number → 0 < left → (p n : ℕ) → IsPassed app.items readers p n → WaitsAt app.items readers p n name s
     → Going app values start (slice_set readers n (ran_reader s values (unwrap_or (slice_get readers n) first_reader))) (left - 1) (outputs ++ shown_output name s values ∷ []) p n
-one_more app values start readers left outputs place number name s g some p n passed waits =
+one_more app values start readers left outputs place number name s built g some p n passed waits =
     let state = state_of values readers in
     let after = ran_reader s values (unwrap_or (slice_get readers n) first_reader) in
     let at = reader_is app readers p n name s passed waits in
-    let run : Run = record { number = n; outcome = shown_outcome s values } in
-    let run_same : run_of n (run_reader app n state) ≡ run = ap (λ o. let r : Run = record { number = n; outcome = o } in r) (outcome_is app values readers n name s at) in
-    let state_same = run_is app values readers n name s at (waits_within readers n waits.waits) in
-    let told_same : batch_output app run ≡ shown_output name s values = ap (λ i. let o : BatchOutput = record { name = name_at i; plot = false; outcome = shown_outcome s values } in o) at in
+    let run = run_of n (shown_outcome s values) in
+    let made : Made = record { state = state_of values (slice_set readers n after); bodies = 1; run = run } in
     record {
       passed = passed_with app.items readers p n after passed;
       runs = g.runs ++ run ∷ [];
-      told = batch_outputs-append app g.runs run ∙ ap (λ l. l ++ batch_output app run ∷ []) g.told ∙ ap (λ o. outputs ++ o ∷ []) told_same;
-      rest = ap (λ s. flush_from app (left - 1) s (g.runs ++ run ∷ [])) (sym state_same) ∙ ap (λ r. flush_from app (left - 1) (with_last n (run_reader app n state)) (g.runs ++ r ∷ [])) (sym run_same)
-          ∙ sym (flush_more app left n state g.runs some (next_is app values readers p n name s passed waits)) ∙ g.rest;
+      bodies = g.bodies + 1;
+      shown = shown_more app g.runs outputs run (shown_output name s values) g.shown (is_shown app n name s values at);
+      rest = sym (flush_more app left n state g.runs g.bodies made some (next_is app values readers p n name s built passed waits) (made_is app values readers n name s at (waits_within readers n waits.waits))
+          (no_failure app n (shown_outcome s values) name s at)) ∙ g.rest;
     }
 
 -- ---- the same, of lists that are equal to those

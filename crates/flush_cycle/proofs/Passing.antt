@@ -1,15 +1,17 @@
 -- Going on over the items: what is known of the readers before a place.
 use Rattle.std.proofs.Common.{◌≡◌, ℕ, zero, suc, ◌+◌, ◌<◌, ◌≤◌, Bool, true, false, List, [], ◌∷◌, ◌++◌, length, take, drop, filter, map, Option, Some, None, refl, sym, ap, ◌∙◌, arith, add-one, add-zero, append-nil, length-append, get_or}
-use Rattle.std.specs.Prelude.{slice_get, if◌then◌else◌}
+use Rattle.std.specs.Prelude.{⊤, pos, int_lt, slice_get, if◌then◌else◌}
 use Rattle.std.proofs.lemmas.List.Elements.{filter-append}
 use Rattle.app_tree.specs.Tree.{Node, text}
 use Rattle.app_tree.specs.declared.item.Item.{Item}
 use Rattle.app_tree.specs.View.{node_of}
 use Rattle.app_tree.specs.Numbering.{is_reader}
 use Rattle.session_model.specs.declared.state.ReaderState.{ReaderState}
-use Rattle.session_model.specs.EarlyFlush.{is_waiting, waiting_from}
+use Rattle.session_model.specs.AskedLaws.{Every}
+use Rattle.session_model.specs.Flush.{Waiting, first_of, and_later, priority_of, is_waiting, waiting_from}
 use Rattle.flush_cycle.specs.Built.{plain_shown}
 use Rattle.flush_cycle.specs.Passed.{waits_at, IsPassed}
+use Rattle.flush_cycle.proofs.Building.{IsOfNoPriority}
 
 -- ---- lists
 
@@ -39,43 +41,63 @@ node_at (y ∷ items) (suc p) x lt e = node_at items p x (omega (arith, lt)) e
 
 -- ---- a search that found none so far
 
-pub none_here : (b : Bool) (n : ℕ) (o : Option ℕ) → (if b then Some n else o) ≡ None → b ≡ false
-none_here true n o e = cc
-none_here false n o e = refl
+none_of : (b : Bool) (w : Waiting) (later : Option Waiting) → and_later b w later ≡ None → (b ≡ false) × (later ≡ None)
+none_of true w later e = absurd cc
+none_of false w later e = (refl, e)
 
-pub none_behind : (b : Bool) (n : ℕ) (o : Option ℕ) → (if b then Some n else o) ≡ None → o ≡ None
-none_behind true n o e = cc
-none_behind false n o e = e
-
-pub go_behind : (b : Bool) (n : ℕ) (o : Option ℕ) → b ≡ false → (if b then Some n else o) ≡ o
-go_behind b n o e = ap (λ t. if t then Some n else o) e
-
-pub stop_here : (b : Bool) (n : ℕ) (o : Option ℕ) → b ≡ true → (if b then Some n else o) ≡ Some n
-stop_here b n o e = ap (λ t. if t then Some n else o) e
+abbrev waiting_at : ℕ → Node → Waiting
+waiting_at k i = record { number = k; priority = priority_of i }
 
 -- the states beyond the readers don't matter
 pub waiting-take : (k : ℕ) (is : List Node) (rs : List ReaderState) → waiting_from k is (take (length is) rs) ≡ waiting_from k is rs
 waiting-take k [] rs = refl
 waiting-take k (i ∷ is) [] = refl
-waiting-take k (i ∷ is) (r ∷ rs) = ap (λ o. if is_waiting i r then Some k else o) (waiting-take (suc k) is rs)
+waiting-take k (i ∷ is) (r ∷ rs) = ap (and_later (is_waiting i r) (waiting_at k i)) (waiting-take (suc k) is rs)
 
 -- the reader behind those that don't wait doesn't either
 pub waiting-past : (k : ℕ) (is : List Node) (name : List ℕ) (s : ℕ) (rs : List ReaderState) → waiting_from k is rs ≡ None → waits_at rs (length is) ≡ false
     → waiting_from k (is ++ text name (plain_shown s) ∷ []) rs ≡ None
 waiting-past k [] name s [] e h = refl
-waiting-past k [] name s (r ∷ rs) e h = go_behind (is_waiting (text name (plain_shown s)) r) k None h
+waiting-past k [] name s (r ∷ rs) e h = ap (λ b. and_later b (waiting_at k (text name (plain_shown s))) None) h
 waiting-past k (i ∷ is) name s [] e h = refl
 waiting-past k (i ∷ is) name s (r ∷ rs) e h =
-    go_behind (is_waiting i r) k _ (none_here (is_waiting i r) k _ e) ∙ waiting-past (suc k) is name s rs (none_behind (is_waiting i r) k _ e) h
+    let none = none_of (is_waiting i r) (waiting_at k i) (waiting_from (suc k) is rs) e in
+    ap (λ b. and_later b (waiting_at k i) (waiting_from (suc k) (is ++ text name (plain_shown s) ∷ []) rs)) none.0 ∙ waiting-past (suc k) is name s rs none.1 h
+
+-- ---- no reader has a priority
+
+abbrev IsOfNone : Option Waiting → Type 0
+IsOfNone None = ⊤
+IsOfNone (Some w) = w.priority ≡ pos 0
+
+-- so the first one comes first
+first_is : (w : Waiting) (later : Option Waiting) → w.priority ≡ pos 0 → IsOfNone later → first_of w later ≡ w
+first_is w None p q = refl
+first_is w (Some other) p q = ap (λ a. if int_lt a other.priority then other else w) p ∙ ap (λ b. if int_lt (pos 0) b then other else w) q
+
+found_none : (b : Bool) (w : Waiting) (later : Option Waiting) → w.priority ≡ pos 0 → IsOfNone later → IsOfNone (and_later b w later)
+found_none true w later p q = ap (λ (x : Waiting). x.priority) (first_is w later p q) ∙ p
+found_none false w later p q = q
+
+all_of_none : (k : ℕ) (is : List Node) (rs : List ReaderState) → Every IsOfNoPriority is → IsOfNone (waiting_from k is rs)
+all_of_none k [] rs h = tt
+all_of_none k (i ∷ is) [] h = tt
+all_of_none k (i ∷ is) (r ∷ rs) h = found_none (is_waiting i r) (waiting_at k i) (waiting_from (suc k) is rs) h.0 (all_of_none (suc k) is rs h.1)
 
 -- the reader behind those that don't wait is the first that waits
-pub waiting-found : (k : ℕ) (is : List Node) (name : List ℕ) (s : ℕ) (later : List Node) (rs : List ReaderState) → waiting_from k is rs ≡ None → waits_at rs (length is) ≡ true
-    → waiting_from k (is ++ text name (plain_shown s) ∷ later) rs ≡ Some (k + length is)
-waiting-found k [] name s later [] e h = cc
-waiting-found k [] name s later (r ∷ rs) e h = stop_here (is_waiting (text name (plain_shown s)) r) k _ h ∙ ap Some (sym (add-zero k))
-waiting-found k (i ∷ is) name s later [] e h = cc
-waiting-found k (i ∷ is) name s later (r ∷ rs) e h =
-    go_behind (is_waiting i r) k _ (none_here (is_waiting i r) k _ e) ∙ waiting-found (suc k) is name s later rs (none_behind (is_waiting i r) k _ e) h ∙ ap Some (omega arith)
+pub waiting-found : (k : ℕ) (is : List Node) (name : List ℕ) (s : ℕ) (later : List Node) (rs : List ReaderState) → Every IsOfNoPriority later → waiting_from k is rs ≡ None → waits_at rs (length is) ≡ true
+    → waiting_from k (is ++ text name (plain_shown s) ∷ later) rs ≡ Some (record { number = k + length is; priority = pos 0 })
+waiting-found k [] name s later [] z e h = cc
+waiting-found k [] name s later (r ∷ rs) z e h =
+    let i = text name (plain_shown s) in
+    ap (λ b. and_later b (waiting_at k i) (waiting_from (suc k) later rs)) h
+    ∙ ap Some (first_is (waiting_at k i) (waiting_from (suc k) later rs) refl (all_of_none (suc k) later rs z))
+    ∙ ap (λ n. let w : Waiting = record { number = n; priority = pos 0 } in Some w) (sym (add-zero k))
+waiting-found k (i ∷ is) name s later [] z e h = cc
+waiting-found k (i ∷ is) name s later (r ∷ rs) z e h =
+    let none = none_of (is_waiting i r) (waiting_at k i) (waiting_from (suc k) is rs) e in
+    ap (λ b. and_later b (waiting_at k i) (waiting_from (suc k) (is ++ text name (plain_shown s) ∷ later) rs)) none.0 ∙ waiting-found (suc k) is name s later rs z none.1 h
+    ∙ ap (λ n. let w : Waiting = record { number = n; priority = pos 0 } in Some w) (let e : suc k + length is ≡ k + suc (length is) = omega arith in e)
 
 -- ---- one more item
 

@@ -4,7 +4,7 @@ use Rattle.rx_value.specs.declared.memory.Memory.{Memory}
 use Rattle.flush_cycle.specs.declared.texts.Sent.{Sent}
 use Rattle.app_tree.specs.Held.{Held}
 use Rattle.session_model.specs.State.{SessionState}
-use Rattle.session_model.specs.EarlyFlush.{done, budget_spent, Flushed as FlushResult}
+use Rattle.session_model.specs.Flush.{done, budget_spent, Flushed as FlushResult}
 use Rattle.flush_cycle.specs.declared.stage.Stage.{Stage}
 use Rattle.flush_cycle.specs.declared.stage.Stage.TheVariants.{Open, Over}
 use Rattle.flush_cycle.specs.declared.flushed.Flushed.{Flushed}

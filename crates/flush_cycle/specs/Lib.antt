@@ -3,5 +3,5 @@ pub mod Built
 pub mod Passed
 pub mod Sent
 pub mod Flushing
-pub mod EarlyJson
-pub mod Whole
+pub mod TakenJson
+pub mod Targets

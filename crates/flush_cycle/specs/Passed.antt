@@ -1,15 +1,15 @@
 -- What one run makes of a reader, and what a flush has come to, in the Flusher's own lists.
-use Rattle.std.specs.Prelude.{◌≡◌, ℕ, ◌≤◌, Bool, true, false, not, ◌&&◌, List, [], ◌∷◌, filter, take, length, Option, Some, None, slice_get, if◌then◌else◌}
+use Rattle.std.specs.Prelude.{◌≡◌, ⊤, ℕ, ◌≤◌, Bool, true, false, not, ◌&&◌, List, [], ◌∷◌, filter, take, length, Option, Some, None, slice_get, if◌then◌else◌}
 use Rattle.rx_value.specs.declared.outcome.Outcome.{Outcome}
 use Rattle.rx_value.specs.declared.source.SourceValue.{SourceValue}
 use Rattle.app_tree.specs.Tree.{Node, text, Shape}
-use Rattle.app_tree.specs.Numbering.{is_reader}
+use Rattle.app_tree.specs.Numbering.{is_reader, reader}
 use Rattle.app_tree.specs.Current.{value_at, plain_outcome}
 use Rattle.shiny_json.specs.declared.batch.BatchOutput.{BatchOutput}
 use Rattle.session_model.specs.declared.state.ReaderState.{ReaderState}
 use Rattle.session_model.specs.State.{SessionState, is_alive}
-use Rattle.session_model.specs.EarlyFlush.{waiting_from, FlushEnd, done, budget_spent, Flushed}
-use Rattle.session_model.specs.EarlyTexts.{batch_outputs}
+use Rattle.session_model.specs.Flush.{waiting_from, Run, FlushEnd, done, budget_spent, Flushed}
+use Rattle.session_model.specs.Texts.{output_texts, run_texts_of, output_of_run}
 use Rattle.flush_cycle.specs.Built.{plain_shown}
 
 -- what an output comes to that shows the input of source number s
@@ -54,11 +54,20 @@ pub record WaitsAt (items : List Node) (readers : List ReaderState) (place numbe
 abbrev pub end_of : Bool → FlushEnd
 end_of spent = if spent then budget_spent else done
 
--- the state, the outcomes that the values text tells, and the end
-pub record Passed : Type 0 where
-  pub state : SessionState
-  pub outputs : List BatchOutput
-  pub end : FlushEnd
+-- a run of an output, of which the values text tells this
+pub record IsShown (app : Shape) (run : Run) (output : BatchOutput) : Type 0 where
+  pub texts : run_texts_of (reader app run.number) ≡ output_texts output.name
+  pub told : output_of_run (reader app run.number) run ≡ output ∷ []
+  pub silent : run.messages ≡ []
 
-abbrev pub passed_of : Shape → Flushed → Passed
-passed_of app flushed = record { state = flushed.state; outputs = batch_outputs app flushed.runs; end = flushed.end }
+-- the same of each of these runs
+abbrev pub AreShown : Shape → List Run → List BatchOutput → Type 0
+AreShown app [] [] = ⊤
+AreShown app (run ∷ runs) (output ∷ outputs) = IsShown app run output × AreShown app runs outputs
+AreShown app _ _ = ⊥
+
+-- a flush came to this state by runs of these outputs, and to its end
+pub record Passes (app : Shape) (flushed : Flushed) (after : SessionState) (outputs : List BatchOutput) (spent : Bool) : Type 0 where
+  pub state : flushed.state ≡ after
+  pub shown : AreShown app flushed.runs outputs
+  pub end : flushed.end ≡ end_of spent

@@ -5,8 +5,8 @@ use Rattle.shiny_json.specs.declared.batch.Batch.{Batch}
 use Rattle.shiny_json.specs.Server.{config_text, busy_text}
 use Rattle.shiny_json.specs.Values.{values_text}
 use Rattle.session_model.specs.State.{SessionState}
-use Rattle.session_model.specs.EarlyFlush.{Flushed as FlushResult}
-use Rattle.session_model.specs.EarlyTexts.{output_texts}
+use Rattle.session_model.specs.Flush.{Flushed as FlushResult}
+use Rattle.session_model.specs.Texts.{output_texts}
 use Rattle.flush_cycle.specs.Passed.{end_of}
 use Rattle.flush_cycle.specs.declared.texts.Sent.{Sent}
 

@@ -7,13 +7,13 @@ ghost use Rattle.flush_cycle.specs.State.{state_of};
 use rx_value::{SourceValue, Value};
 use session_model::ReaderState;
 
-fn is_among(sources: &[u32], source: usize) -> bool
+fn is_among(sources: &[u32], source: u128) -> bool
     ensures { result ≡ reaches source sources.now }
 {
-    sources.iter().any(|reached| *reached as usize == source)
+    sources.iter().any(|reached| *reached as u128 == source)
 }
 
-fn mark(reader: &mut ReaderState, source: usize)
+fn mark(reader: &mut ReaderState, source: u128)
     ensures { reader.new ≡ marked source reader.old }
 {
     if let Some(dependencies) = &mut reader.dependencies {
@@ -23,7 +23,7 @@ fn mark(reader: &mut ReaderState, source: usize)
     }
 }
 
-fn mark_all(readers: &mut Vec<ReaderState>, source: usize)
+fn mark_all(readers: &mut Vec<ReaderState>, source: u128)
     ensures { readers.new.items ≡ map (marked source) readers.old.items }
 {
     for reader in readers.iter_mut() {
@@ -31,12 +31,13 @@ fn mark_all(readers: &mut Vec<ReaderState>, source: usize)
     }
 }
 
-fn is_value(values: &[SourceValue], source: usize, value: &SourceValue) -> bool
+fn is_value(values: &[SourceValue], source: u128, value: &SourceValue) -> bool
     ensures { result ≡ source_eq (value_at values.now source) value.now }
 {
-    match values.get(source) {
-        Some(held) => held.same(value),
-        None => SourceValue::Plain(Value::Null).same(value),
+    if source < values.len() as u128 {
+        values[source as usize].same(value)
+    } else {
+        SourceValue::Plain(Value::Null).same(value)
     }
 }
 
@@ -45,7 +46,7 @@ fn is_value(values: &[SourceValue], source: usize, value: &SourceValue) -> bool
 pub fn change(
     values: &mut Vec<SourceValue>,
     readers: &mut Vec<ReaderState>,
-    source: usize,
+    source: u128,
     value: SourceValue,
 )
     ensures { state_of values.new.items readers.new.items ≡ change source value (state_of values.old.items readers.old.items) }
@@ -53,8 +54,8 @@ pub fn change(
     if is_value(values.as_slice(), source, &value) {
         return;
     }
-    if source < values.len() {
-        values[source] = value;
+    if source < values.len() as u128 {
+        values[source as usize] = value;
     }
     mark_all(readers, source);
 }

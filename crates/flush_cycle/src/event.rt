@@ -1,10 +1,10 @@
 ghost use Rattle.std.specs.Prelude.{◌≡◌, IfOk};
 ghost use Rattle.app_tree.specs.View.{shape_of};
-ghost use Rattle.session_model.specs.EarlyAlone.{applied};
-ghost use Rattle.session_model.specs.EarlyTexts.{first_texts, later_texts};
-ghost use Rattle.flush_cycle.specs.State.{state_of};
+ghost use Rattle.session_model.specs.Alone.{applied};
+ghost use Rattle.session_model.specs.Texts.{first_texts, later_texts};
+ghost use Rattle.flush_cycle.specs.State.{state_of, AreThawed};
 ghost use Rattle.flush_cycle.specs.Built.{IsBuilt};
-ghost use Rattle.flush_cycle.specs.Passed.{passed_of, end_of};
+ghost use Rattle.flush_cycle.specs.Passed.{Passes};
 ghost use Rattle.flush_cycle.specs.Sent.{Sends};
 
 use crate::apply::apply_pairs;
@@ -23,8 +23,10 @@ fn apply_and_flush(
     readers: &mut Vec<ReaderState>,
     pairs: &[Pair],
 ) -> Result<Pass, Memory>
-    requires { IsBuilt (shape_of app.now) }
-    ensures { IfOk result (λ p. passed_of (shape_of app.now) (applied (shape_of app.now) pairs.now (state_of values.old.items readers.old.items)) ≡ record { state = state_of values.new.items readers.new.items; outputs = p.outputs; end = end_of p.spent }) }
+    requires built { IsBuilt (shape_of app.now) }
+    requires thawed { AreThawed values.old.items }
+    ensures passes { IfOk result (λ p. Passes (shape_of app.now) (applied (shape_of app.now) pairs.now (state_of values.old.items readers.old.items)) (state_of values.new.items readers.new.items) p.outputs p.spent) }
+    ensures thawed { AreThawed values.new.items }
 {
     apply_pairs(alloc, app, values, readers, pairs)?;
     flush(alloc, app, values.as_slice(), readers)
@@ -39,8 +41,10 @@ pub fn first_event(
     label: &RxText,
     pairs: &[Pair],
 ) -> Result<Sent, Memory>
-    requires { IsBuilt (shape_of app.now) }
-    ensures { IfOk result (λ sent. let f = applied (shape_of app.now) pairs.now (state_of values.old.items readers.old.items) in Sends (first_texts (shape_of app.now) label.now f) f (state_of values.new.items readers.new.items) sent) }
+    requires built { IsBuilt (shape_of app.now) }
+    requires thawed { AreThawed values.old.items }
+    ensures sends { IfOk result (λ sent. let f = applied (shape_of app.now) pairs.now (state_of values.old.items readers.old.items) in Sends (first_texts (shape_of app.now) label.now f) f (state_of values.new.items readers.new.items) sent) }
+    ensures thawed { AreThawed values.new.items }
 {
     let pass = apply_and_flush(alloc, app, values, readers, pairs)?;
     let spent = pass.spent;
@@ -56,8 +60,10 @@ pub fn later_event(
     readers: &mut Vec<ReaderState>,
     pairs: &[Pair],
 ) -> Result<Sent, Memory>
-    requires { IsBuilt (shape_of app.now) }
-    ensures { IfOk result (λ sent. let f = applied (shape_of app.now) pairs.now (state_of values.old.items readers.old.items) in Sends (later_texts (shape_of app.now) f) f (state_of values.new.items readers.new.items) sent) }
+    requires built { IsBuilt (shape_of app.now) }
+    requires thawed { AreThawed values.old.items }
+    ensures sends { IfOk result (λ sent. let f = applied (shape_of app.now) pairs.now (state_of values.old.items readers.old.items) in Sends (later_texts (shape_of app.now) f) f (state_of values.new.items readers.new.items) sent) }
+    ensures thawed { AreThawed values.new.items }
 {
     let pass = apply_and_flush(alloc, app, values, readers, pairs)?;
     let spent = pass.spent;

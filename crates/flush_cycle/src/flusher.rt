@@ -1,8 +1,8 @@
 ghost use Rattle.std.specs.Prelude.{◌≡◌, IfOk};
 ghost use Rattle.app_tree.specs.View.{shape_of};
-ghost use Rattle.session_model.specs.EarlyAlone.{first_state};
-ghost use Rattle.session_model.specs.EarlyAlone.{applied};
-ghost use Rattle.session_model.specs.EarlyTexts.{first_texts, later_texts};
+ghost use Rattle.session_model.specs.State.{first_state};
+ghost use Rattle.session_model.specs.Alone.{applied};
+ghost use Rattle.session_model.specs.Texts.{first_texts, later_texts};
 ghost use Rattle.flush_cycle.specs.Built.{IsBuilt};
 ghost use Rattle.flush_cycle.specs.Flushing.{FlushGives, flushed_of, stage_after};
 
@@ -34,7 +34,7 @@ impl Model for Flusher {
     ghost use Rattle.app_tree.specs.contracts.term.Term as term;
     ghost use Rattle.app_tree.specs.contracts.statement.Statement as statement;
     ghost use Rattle.flush_cycle.specs.Flushing.{Flushing};
-    ghost use Rattle.flush_cycle.specs.State.{state_of};
+    ghost use Rattle.flush_cycle.specs.State.{state_of, AreThawed};
     ghost use Rattle.flush_cycle.specs.Built.{IsBuilt};
     ghost use Rattle.app_tree.specs.View.{shape_of};
 
@@ -42,7 +42,7 @@ impl Model for Flusher {
 
     ghost coded = { Prim.hlevel (codes, term.the_row.coded, statement.the_row.coded) };
 
-    ghost invariant = { λ f. IsBuilt (shape_of f.app.value) };
+    ghost invariant = { λ f. IsBuilt (shape_of f.app.value) × AreThawed f.values.items };
 
     ghost view = { λ f. record { app = f.app.value; state = state_of f.values.items f.readers.items; stage = f.stage } };
 }

@@ -1,10 +1,10 @@
 ghost use Rattle.std.specs.Prelude.{◌≡◌, ◌∷◌, [], ◌++◌, ◌<◌, length, slice_set, unwrap_or, slice_get, IfOk, OnOk};
 ghost use Rattle.app_tree.specs.View.{shape_of};
 ghost use Rattle.session_model.specs.State.{first_reader};
-ghost use Rattle.session_model.specs.EarlyFlush.{flush};
+ghost use Rattle.session_model.specs.Flush.{flush};
 ghost use Rattle.flush_cycle.specs.State.{state_of};
 ghost use Rattle.flush_cycle.specs.Built.{IsBuilt};
-ghost use Rattle.flush_cycle.specs.Passed.{ran_reader, end_of, passed_of, shown_output};
+ghost use Rattle.flush_cycle.specs.Passed.{ran_reader, Passes, shown_output};
 
 use crate::running::run;
 use crate::waiting::{Waiting, next_waiting};
@@ -51,7 +51,7 @@ pub fn flush(
     readers: &mut Vec<ReaderState>,
 ) -> Result<Pass, Memory>
     requires { IsBuilt (shape_of app.now) }
-    ensures { IfOk result (λ p. passed_of (shape_of app.now) (flush (shape_of app.now) (state_of values.now readers.old.items)) ≡ record { state = state_of values.now readers.new.items; outputs = p.outputs; end = end_of p.spent }) }
+    ensures { IfOk result (λ p. Passes (shape_of app.now) (flush (shape_of app.now) (state_of values.now readers.old.items)) (state_of values.now readers.new.items) p.outputs p.spent) }
 {
     let items = app.items().as_slice();
     let mut outputs = BatchOutputs::new(alloc);

@@ -7,24 +7,24 @@
 
 mod apply;
 mod change;
-mod early;
 mod event;
 mod flushed;
 mod flusher;
 mod flushing;
 mod forms;
-mod laws;
 mod names;
 mod running;
+mod sizes;
 mod stage;
 mod start;
+mod taken;
+mod targets;
 mod texts;
 mod waiting;
 
-pub use early::read_early;
 pub use flushed::Flushed;
 pub use flusher::Flusher;
 pub use forms::built;
-pub use laws::taken_is_whole;
 pub use stage::Stage;
+pub use taken::read_taken;
 pub use texts::Texts;

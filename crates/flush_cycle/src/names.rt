@@ -2,7 +2,9 @@ ghost use Rattle.std.specs.Prelude.{◌≡◌, map};
 ghost use Rattle.std.specs.Option.{option_copied};
 ghost use Rattle.app_tree.specs.View.{node_of};
 ghost use Rattle.app_tree.specs.Numbering.{input_number, output_number};
-ghost use Rattle.session_model.specs.EarlyApply.{after_front, before_end, hidden_output_name, hidden_output};
+ghost use Rattle.session_model.specs.Apply.{after_front, before_end, output_told};
+ghost use Rattle.session_model.specs.TakenLines.{hidden_output};
+ghost use Rattle.flush_cycle.specs.Targets.{output_name};
 
 use app_tree::Item;
 
@@ -64,11 +66,21 @@ fn before_end<'a>(end: &[u8], name: &'a [u8]) -> Option<&'a [u8]>
     }
 }
 
-fn hidden_output_name(name: &[u8]) -> Option<&[u8]>
-    ensures { option_copied result ≡ hidden_output_name name.now }
+fn output_name<'a>(end: &[u8], name: &'a [u8]) -> Option<&'a [u8]>
+    ensures { option_copied result ≡ output_name end.now name.now }
 {
     match after_front(b".clientdata_output_", name) {
-        Some(rest) => before_end(b"_hidden", rest),
+        Some(rest) => before_end(end, rest),
+        None => None,
+    }
+}
+
+/// The reader number of the output NAME of which `.clientdata_output_NAME` and this end tell.
+pub fn output_told(items: &[Item], end: &[u8], name: &str) -> Option<usize>
+    ensures { result ≡ output_told end.now name.now (map node_of items.now) }
+{
+    match output_name(end, name.as_bytes()) {
+        Some(output) => output_number(items, output),
         None => None,
     }
 }
@@ -78,8 +90,5 @@ fn hidden_output_name(name: &[u8]) -> Option<&[u8]>
 pub fn hidden_output(items: &[Item], name: &str) -> Option<usize>
     ensures { result ≡ hidden_output name.now (map node_of items.now) }
 {
-    match hidden_output_name(name.as_bytes()) {
-        Some(output) => output_number(items, output),
-        None => None,
-    }
+    output_told(items, b"_hidden", name)
 }

@@ -1,5 +1,5 @@
 ghost use Rattle.std.specs.Prelude.{◌≡◌, ◌++◌, IfOk, OnOk};
-ghost use Rattle.session_model.specs.EarlyTexts.{output_texts};
+ghost use Rattle.session_model.specs.Texts.{output_texts};
 ghost use Rattle.flush_cycle.specs.Sent.{outputs_texts, closing_pass, pass_texts, first_pass, later_pass};
 
 use crate::flushing::Pass;

@@ -2,7 +2,7 @@ ghost use Rattle.std.specs.Prelude.{◌≡◌, map, IfSome, IfNone, None};
 ghost use Rattle.app_tree.specs.View.{node_of};
 ghost use Rattle.app_tree.specs.Numbering.{is_reader};
 ghost use Rattle.session_model.specs.State.{is_alive};
-ghost use Rattle.session_model.specs.EarlyFlush.{waiting_from};
+ghost use Rattle.session_model.specs.Flush.{waiting_from};
 ghost use Rattle.std.specs.Prelude.{filter};
 ghost use Rattle.flush_cycle.specs.Built.{first_unbuilt, input_of_output};
 ghost use Rattle.flush_cycle.specs.Passed.{waits_at, IsPassed, WaitsAt};

@@ -10,7 +10,7 @@ use Rattle.session_model.specs.AskedLaws.{Every}
 use Rattle.session_model.specs.Alone.{Ending, ending, state_after}
 use Rattle.session_model.specs.Lines.{lines_of}
 use Rattle.session_model.specs.Output.{send_lines}
-use Rattle.session_model.specs.Transcript.{line_past_limit, session_limit, Line, recv, ends, closes, line_of, Open, opened, is_over, session_of, with_session, is_full, Stepped, step_by, step, done, Replayed, after_output, Rest, stepped, taken, opens, received, closed, task_ended, task_end_of, ended_in, replay_line, closing_output, all_closed, added_texts, with_event, ending_text, over_line, is_line, replay_from, replayed}
+use Rattle.session_model.specs.Transcript.{line_past_limit, session_limit, Line, recv, ends, closes, line_of, Open, opened, is_over, session_of, with_session, is_full, Stepped, step_by, step, done, Replayed, after_output, Rest, stepped, taken, opens, received, closed, task_ended, task_end_of, ended_in, replay_line, closing_output, all_closed, added_texts, with_event, ending_text, over_line, is_line, said_by, replay_from, replayed}
 use Rattle.session_model.specs.Apart.{is_said_to, lines_for, alone, Piece, joined, pieces_for, last_line, IsOfLines, IsInterleaved, LinesInterleave, TranscriptsInterleave}
 
 -- ---- the sessions of one label
@@ -226,7 +226,7 @@ record Parts (app : Shape) (sessions : List Open) (lines : List (List ℕ)) (out
   pieces : List Piece
   own : Every IsOfLines pieces
   whole : output ≡ joined pieces
-  parts : (label : List ℕ) (j : ℕ) → replay_from app j None (sessions_for label sessions) (lines_for app label lines) ≡ record { output = joined (pieces_for label pieces); end = done }
+  parts : (label : List ℕ) (j : ℕ) → replay_from app (said_by app None) j (sessions_for label sessions) (lines_for app label lines) ≡ record { output = joined (pieces_for label pieces); end = done }
 
 -- at the end each open session is closed
 closing : Shape → List Open → List Piece
@@ -267,21 +267,21 @@ module _ (app : Shape) (sessions : List Open) (line : List ℕ) (more : List (Li
   first = record { label = t.label; bytes = t.after.output }
 
   part_of : (label : List ℕ) (j : ℕ) (own : Bool) → bytes_eq label t.label ≡ own
-      → replay_from app j None (sessions_for label sessions) (lines_for app label (line ∷ more)) ≡ record { output = joined (pieces_for label (first ∷ rest.pieces)); end = done }
+      → replay_from app (said_by app None) j (sessions_for label sessions) (lines_for app label (line ∷ more)) ≡ record { output = joined (pieces_for label (first ∷ rest.pieces)); end = done }
   unfolding first
   part_of label j true own =
       let same : label ≡ t.label = equal label t.label own in
       let said : is_said_to label (line_of app.items line) ≡ true = t.said_to label ∙ own in
       let alike : sessions_for label (with_session t.after.session sessions) ≡ with_session t.after.session (sessions_for label sessions) =
       subst (λ (l : List ℕ). sessions_for l (with_session t.after.session sessions) ≡ with_session t.after.session (sessions_for l sessions)) (t.keeps ∙ sym same) (moved_for t.after.session sessions) in
-      let later : Rest = λ l. replay_from app (suc j) None l (lines_for app label more) in
+      let later : Rest = λ l. replay_from app (said_by app None) (suc j) l (lines_for app label more) in
       let goes : replay_line app j (sessions_for label sessions) (line_of app.items line) later ≡ stepped (sessions_for label sessions) t.after later =
       subst (λ (l : List ℕ). replay_line app j (sessions_for l sessions) (line_of app.items line) later ≡ stepped (sessions_for l sessions) t.after later) (sym same) (t.goes_alone j later) in
       rw (said, own) (goes ∙ ap (λ l. after_output t.after.output (later l)) (sym alike) ∙ ap (after_output t.after.output) (rest.parts label (suc j)))
   part_of label j false own =
       let said : is_said_to label (line_of app.items line) ≡ false = t.said_to label ∙ own in
       let stay : sessions_for label (with_session t.after.session sessions) ≡ sessions_for label sessions = others_for label t.after.session sessions (ap (bytes_eq label) t.keeps ∙ own) in
-      rw (said, own) (ap (λ l. replay_from app j None l (lines_for app label more)) (sym stay) ∙ rest.parts label j)
+      rw (said, own) (ap (λ l. replay_from app (said_by app None) j l (lines_for app label more)) (sym stay) ∙ rest.parts label j)
 
   one_more : Parts app sessions (line ∷ more) (replay_line app k sessions (line_of app.items line) next).output
   unfolding first
@@ -292,13 +292,13 @@ module _ (app : Shape) (sessions : List Open) (line : List ℕ) (more : List (Li
     parts = λ label j. part_of label j (bytes_eq label t.label) refl;
   }
 
-interleaves : (app : Shape) (k : ℕ) (past : Option ℕ) (sessions : List Open) (lines : List (List ℕ)) → (replay_from app k past sessions lines).end ≡ done
-    → Parts app sessions lines (replay_from app k past sessions lines).output
+interleaves : (app : Shape) (k : ℕ) (past : Option ℕ) (sessions : List Open) (lines : List (List ℕ)) → (replay_from app (said_by app past) k sessions lines).end ≡ done
+    → Parts app sessions lines (replay_from app (said_by app past) k sessions lines).output
 interleaves app k past sessions [] e = at_end app sessions
 interleaves app k past sessions (line ∷ more) e = decide (is_line k past) (λ l. interleaves app (suc k) past l more) e
   where
     next : Rest
-    next l = replay_from app (suc k) past l more
+    next l = replay_from app (said_by app past) (suc k) l more
 
     decide : (beyond : Bool) → ((l : List Open) → (next l).end ≡ done → Parts app l more (next l).output)
         → (replay_line app k sessions (if beyond then None else line_of app.items line) next).end ≡ done

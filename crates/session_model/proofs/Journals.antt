@@ -1,21 +1,10 @@
 -- A longer journal goes on where the shorter one has come to.
-use Rattle.std.proofs.Common.{◌≡◌, ℕ, List, [], ◌∷◌, ◌++◌, length, drop, refl, sym, ap, ◌∙◌, append_assoc, append-nil}
+use Rattle.std.proofs.Common.{◌≡◌, ℕ, List, [], ◌∷◌, ◌++◌, length, drop, refl, ap, ◌∙◌, append-nil}
 use Rattle.app_tree.specs.Tree.{Shape}
 use Rattle.session_model.specs.declared.event.Event.{Event}
-use Rattle.session_model.specs.EarlyAlone.{Course, first_course, after_event, texts_of_event, course_from, answers_from, answers, course_of}
-use Rattle.session_model.specs.EarlyTranscript.{added_texts}
-
-pub course_from-append : (app : Shape) (course : Course) (front back : List Event) → course_from app course (front ++ back) ≡ course_from app (course_from app course front) back
-course_from-append app course [] back = refl
-course_from-append app course (event ∷ front) back = course_from-append app (after_event app course event) front back
-
-pub answers_from-append : (app : Shape) (label : List ℕ) (course : Course) (front back : List Event)
-    → answers_from app label course (front ++ back) ≡ answers_from app label course front ++ answers_from app label (course_from app course front) back
-answers_from-append app label course [] back = refl
-answers_from-append app label course (event ∷ front) back =
-    let now = texts_of_event app label course event in
-    let next = after_event app course event in
-    ap (λ l. now ++ l) (answers_from-append app label next front back) ∙ sym (append_assoc now (answers_from app label next front) (answers_from app label (course_from app next front) back))
+use Rattle.session_model.specs.Alone.{first_course, after_event, texts_of_event, answers, course_of}
+use Rattle.session_model.specs.Transcript.{added_texts}
+use Rattle.session_model.proofs.Expected.{course_from-append, answers_from-append}
 
 pub course_of-more : (app : Shape) (journal : List Event) (event : Event) → course_of app (journal ++ event ∷ []) ≡ after_event app (course_of app journal) event
 course_of-more app journal event = course_from-append app (first_course app) journal (event ∷ [])

@@ -1,5 +1,5 @@
 pub mod Journals
-pub mod EarlyMessages
+pub mod TakenReplay
 pub mod TranscriptLines
 pub mod Expected
 pub mod Agreeing

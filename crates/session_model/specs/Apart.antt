@@ -4,7 +4,7 @@ use Rattle.app_tree.specs.Tree.{Shape}
 use Rattle.session_model.specs.Lines.{lines_of}
 use Rattle.session_model.specs.AskedLaws.{Every}
 use Rattle.session_model.specs.Output.{send_lines, over_text}
-use Rattle.session_model.specs.Transcript.{Line, recv, ends, closes, line_of, done, Replayed, replay_from, replayed}
+use Rattle.session_model.specs.Transcript.{Line, recv, ends, closes, line_of, done, Replayed, said_by, replay_from, replayed}
 
 -- ---- a session's lines
 
@@ -21,7 +21,7 @@ lines_for app label lines = filter (λ line. is_said_to label (line_of app.items
 
 -- lines replayed by themselves
 abbrev pub alone : Shape → List (List ℕ) → Replayed
-alone app lines = replay_from app 1 None [] lines
+alone app lines = replay_from app (said_by app None) 1 [] lines
 
 -- ---- pieces of an output
 

@@ -11,14 +11,7 @@ pub mod Alone
 pub mod Lines
 pub mod Output
 pub mod Transcript
-pub mod EarlyRun
-pub mod EarlyFlush
-pub mod EarlyApply
-pub mod EarlyTexts
-pub mod EarlyAlone
-pub mod Early
-pub mod EarlyTranscript
-pub mod Examples
+pub mod TakenLines
 pub mod Laws
 pub mod AskedLaws
 pub mod Orderly

@@ -215,14 +215,14 @@ is_line k None = false
 is_line k (Some j) = k == j
 
 -- what line k says, unless it is the one that goes past the limit of the transcript
-abbrev pub said_by : Shape → ℕ → Option ℕ → List ℕ → Option Line
-said_by app k past line = if is_line k past then None else line_of app.items line
+abbrev pub said_by : Shape → Option ℕ → ℕ → List Open → List ℕ → Option Line
+said_by app past k sessions line = if is_line k past then None else line_of app.items line
 
--- these lines, the first of which has number k; `past` is the number of the line that goes past the limit
-abbrev pub replay_from : Shape → ℕ → Option ℕ → List Open → List (List ℕ) → Replayed
-replay_from app k past sessions [] = record { output = all_closed app sessions; end = done }
-replay_from app k past sessions (line ∷ more) = replay_line app k sessions (said_by app k past line) (λ next. replay_from app (suc k) past next more)
+-- these lines, the first of which has number k, where `said` tells what a line says by its number and the sessions before it
+abbrev pub replay_from : Shape → (ℕ → List Open → List ℕ → Option Line) → ℕ → List Open → List (List ℕ) → Replayed
+replay_from app said k sessions [] = record { output = all_closed app sessions; end = done }
+replay_from app said k sessions (line ∷ more) = replay_line app k sessions (said k sessions line) (λ next. replay_from app said (suc k) next more)
 
 -- the output of a transcript's replay, and how it ends
 abbrev pub replayed : Shape → List ℕ → Replayed
-replayed app bytes = replay_from app 1 (line_past_limit bytes) [] (lines_of bytes)
+replayed app bytes = replay_from app (said_by app (line_past_limit bytes)) 1 [] (lines_of bytes)

@@ -7,17 +7,14 @@
 #![tactic(auto)]
 
 mod event;
-mod examples;
 mod laws;
 mod state;
+mod taken;
 
 pub use event::Event;
-pub use examples::{
-    refuses_a_line, replays_a_transcript, shows_a_changed_input, shows_an_empty_app,
-    shows_an_equal_input,
-};
 pub use laws::{
     app_laws, change_laws, counts_missing_readers, evaluation_laws, flush_laws, freshness_laws,
     journal_laws, run_laws, runs_part_in_a_wrong_state, standing_laws, state_laws, transcript_laws,
 };
 pub use state::{Dependencies, ReaderState};
+pub use taken::taken_is_whole;

@@ -6,9 +6,9 @@ use Rattle.shiny_json.specs.declared.message.Pair.{Pair}
 use Rattle.shiny_json.specs.declared.message.Client.TheVariants.{Update}
 use Rattle.shiny_json.specs.Client.{client_message}
 use Rattle.session_model.specs.declared.event.Event.TheVariants.{Text}
-use Rattle.session_model.specs.EarlyFlush.{Flushed as FlushResult}
-use Rattle.session_model.specs.EarlyAlone.{Course, flushes, effect, effect_texts, effect_from, message_effect, course_after, flush_ending, applied, course_of, ending}
-use Rattle.session_model.specs.EarlyTranscript.{Open, with_event, event_output, over_line, added_texts}
+use Rattle.session_model.specs.Flush.{Flushed as FlushResult}
+use Rattle.session_model.specs.Alone.{Course, flushes, effect, effect_texts, effect_from, message_effect, course_after, flush_ending, applied, course_of, ending}
+use Rattle.session_model.specs.Transcript.{Open, with_event, event_output, over_line, added_texts}
 use Rattle.session_model.specs.Output.{send_lines}
 use Rattle.session_model.proofs.Journals.{course_of-more, added_texts-more}
 use Rattle.flush_cycle.specs.declared.stage.Stage.TheVariants as stage
@@ -34,12 +34,12 @@ output_is app s text first f e =
 
 -- the answer to a text that flushes
 pub answers_text : (app : Shape) (s : Open) (text : List ℕ) (first : Bool) (f : FlushResult) (texts : List (List ℕ)) (over : Bool) (answered : Answered)
-    → effect app (course_of app s.journal) (Text text) ≡ flushes first f
+    → effect app (course_of app s.journal) (Text text) ≡ flushes first f → s.full ≡ false
     → answered.session.label ≡ s.label → shape_of answered.session.flusher.app ≡ app
     → FlushGives (effect_texts app s.label (flushes first f)) f answered.session.flusher.state (flushed_by texts over)
     → answered.session.flusher.stage ≡ stage_after (flushed_by texts over)
     → answered.output ≡ event_lines s.label texts over → AnswersText app s text answered
-answers_text app s text first f texts true answered e label of_app gives at out =
+answers_text app s text first f texts true answered e open_ label of_app gives at out =
     let course = course_is app s text first f e in
     record {
       output = out ∙ ap (λ t. send_lines s.label t ++ budget_line s.label true) gives.1 ∙ sym (output_is app s text first f e ∙ ap (λ o. send_lines s.label (effect_texts app s.label (flushes first f)) ++ over_line s.label (flush_ending o)) gives.0);
@@ -49,9 +49,10 @@ answers_text app s text first f texts true answered e label of_app gives at out 
         state = gives.2 ∙ sym (ap (λ (c : Course). c.state) course);
         begun = ap (λ (c : Course). c.begun) course;
         ending = subst (λ b. EndsSo b (course_of app (with_event (Text text) s).journal).ending) (sym at) (ap (λ (c : Course). c.ending) course ∙ ap flush_ending gives.0);
+        goes_on = open_;
       };
     }
-answers_text app s text first f texts false answered e label of_app gives at out =
+answers_text app s text first f texts false answered e open_ label of_app gives at out =
     let course = course_is app s text first f e in
     record {
       output = out ∙ ap (λ t. send_lines s.label t ++ budget_line s.label false) gives.1 ∙ sym (output_is app s text first f e ∙ ap (λ o. send_lines s.label (effect_texts app s.label (flushes first f)) ++ over_line s.label (flush_ending o)) gives.0);
@@ -61,6 +62,7 @@ answers_text app s text first f texts false answered e label of_app gives at out
         state = gives.2 ∙ sym (ap (λ (c : Course). c.state) course);
         begun = ap (λ (c : Course). c.begun) course;
         ending = subst (λ b. EndsSo b (course_of app (with_event (Text text) s).journal).ending) (sym at) (ap (λ (c : Course). c.ending) course ∙ ap flush_ending gives.0);
+        goes_on = open_;
       };
     }
 

@@ -8,7 +8,8 @@ use Rattle.rx_ports.specs.declared.files.NamedFile.{NamedFile}
 use Rattle.app_tree.specs.Tree.{Shape}
 use Rattle.app_check.specs.Load.{loaded}
 use Rattle.app_printer.specs.Canonical.{canonical_text}
-use Rattle.session_model.specs.EarlyTranscript.{ReplayEnd, done, bad_line, no_session, replayed}
+use Rattle.session_model.specs.Transcript.{ReplayEnd, done, bad_line, no_session}
+use Rattle.session_model.specs.TakenLines.{replayed_today}
 use Rattle.shiny_main.specs.declared.words.Command.{Command}
 use Rattle.shiny_main.specs.declared.words.Command.TheVariants as command
 use Rattle.shiny_main.specs.declared.status.Status.{Status}
@@ -43,7 +44,7 @@ said_well text p ended.Memory g = tt
 -- a transcript that is taken whole has no other end
 other_end : (app : Shape) (p : Ports) (ready : IsReplayable app p.left) (end : ReplayEnd) → end ≢ done → ¬ Writes app p end
 other_end app p ready end other w =
-    let is = subst (λ left. IfSome left (λ bytes. replayed app bytes ≡ record { output = w.output; end = end })) ready.comes w.is in
+    let is = subst (λ left. IfSome left (λ bytes. replayed_today app bytes ≡ record { output = w.output; end = end })) ready.comes w.is in
     other (sym (ap (λ r. r.end) is) ∙ ready.whole)
 
 replayed_well : (app : Shape) (p : Ports) (e : Ended) → IsReplayable app p.left → ReplayedGives app p e → IsDoneOrFault e

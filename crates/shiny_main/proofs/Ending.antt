@@ -12,10 +12,10 @@ use Rattle.app_tree.specs.Tree.{Shape}
 use Rattle.app_check.specs.declared.error.LoadError.{LoadError}
 use Rattle.app_check.specs.declared.error.LoadError.TheVariants as error
 use Rattle.app_check.specs.Load.{loaded, within_limit, is_short}
-use Rattle.flush_cycle.specs.Built.{first_unbuilt, IsBuilt}
-use Rattle.flush_cycle.proofs.WholeTranscripts.{taken_is_whole}
-use Rattle.session_model.specs.Transcript as whole
-use Rattle.session_model.specs.EarlyTranscript.{ReplayEnd, done, bad_line, no_session, Replayed, replay_from, replayed}
+use Rattle.flush_cycle.specs.Built.{first_unbuilt}
+use Rattle.session_model.specs.Transcript.{ReplayEnd, done, bad_line, no_session, Replayed, replay_from, replayed}
+use Rattle.session_model.specs.TakenLines.{taken_by, replayed_today}
+use Rattle.session_model.proofs.TakenReplay.{taken_is_whole}
 use Rattle.shiny_main.specs.declared.words.Command.{Command}
 use Rattle.shiny_main.specs.declared.words.Command.TheVariants as command
 use Rattle.shiny_main.specs.declared.ended.Ended.{Ended}
@@ -32,38 +32,42 @@ use Rattle.shiny_main.specs.Top.{IsRead, ReadGives, FileGives, WordsGive}
 
 -- ---- a replay, from its lines
 
-told_end : (app : Shape) (left : Option (List ℕ)) (r : Replayed) → IfSome (remaining [] left) (λ ls. replay_from app 1 None ls ≡ r) → IfSome left (λ bytes. replayed app bytes ≡ r)
+told_end : (app : Shape) (left : Option (List ℕ)) (r : Replayed) → IfSome (remaining [] left) (λ ls. replay_from app (taken_by app) 1 [] ls ≡ r) → IfSome left (λ bytes. replayed_today app bytes ≡ r)
 told_end app None r h = tt
 told_end app (Some bytes) r h = h
 
-told_front : (app : Shape) (left : Option (List ℕ)) (output : List ℕ) → IfSome (remaining [] left) (λ ls. (more : List ℕ) × ((replay_from app 1 None ls).output ≡ output ++ more))
-    → IfSome left (λ bytes. (more : List ℕ) × ((replayed app bytes).output ≡ output ++ more))
+told_front : (app : Shape) (left : Option (List ℕ)) (output : List ℕ) → IfSome (remaining [] left) (λ ls. (more : List ℕ) × ((replay_from app (taken_by app) 1 [] ls).output ≡ output ++ more))
+    → IfSome left (λ bytes. (more : List ℕ) × ((replayed_today app bytes).output ≡ output ++ more))
 told_front app None output h = tt
 told_front app (Some bytes) output h = h
 
-writes : (app : Shape) (p : Ports) (end : ReplayEnd) → Ends app 1 None (remaining [] p.left) p.held p.held_after end → Writes app p end
+writes : (app : Shape) (p : Ports) (end : ReplayEnd) → Ends app 1 [] (remaining [] p.left) p.held p.held_after end → Writes app p end
 writes app p end h = record { output = h.output; sank = h.sank; is = told_end app p.left (record { output = h.output; end = end }) h.is }
 
-writes_front : (app : Shape) (p : Ports) → Stops app 1 None (remaining [] p.left) p.held p.held_after → WritesFront app p
+writes_front : (app : Shape) (p : Ports) → Stops app 1 [] (remaining [] p.left) p.held p.held_after → WritesFront app p
 writes_front app p h = record { output = h.output; sank = h.sank; front = told_front app p.left h.output h.front }
 
--- what is taken whole has the same output by the whole definitions
-whole_end : (app : Shape) (left : Option (List ℕ)) (output : List ℕ) → IsBuilt app → IfSome left (λ bytes. replayed app bytes ≡ record { output = output; end = done })
-    → IfSome left (λ bytes. whole.replayed app bytes ≡ record { output = output; end = whole.done })
-whole_end app None output built h = tt
-whole_end app (Some bytes) output built h =
-    taken_is_whole app bytes built (ap (λ r. r.end) h) ∙ ap (λ r. record { output = r.output; end = whole.done }) h
+-- what is taken to its end has the same output as a whole
+whole_end : (app : Shape) (left : Option (List ℕ)) (output : List ℕ) → IfSome left (λ bytes. replayed_today app bytes ≡ record { output = output; end = done })
+    → IfSome left (λ bytes. replayed app bytes ≡ record { output = output; end = done })
+whole_end app None output h = tt
+whole_end app (Some bytes) output h = taken_is_whole app bytes (ap (λ r. r.end) h) ∙ h
 
-writes_whole : (app : Shape) (p : Ports) → IsBuilt app → Writes app p done → WritesWhole app p
-writes_whole app p built w = record { output = w.output; sank = w.sank; is = whole_end app p.left w.output built w.is }
+taken_end : (app : Shape) (left : Option (List ℕ)) (output : List ℕ) → IfSome left (λ bytes. replayed_today app bytes ≡ record { output = output; end = done })
+    → IfSome left (λ bytes. (replayed_today app bytes).end ≡ done)
+taken_end app None output h = tt
+taken_end app (Some bytes) output h = ap (λ r. r.end) h
 
-pub replayed_gives : (app : Shape) (p : Ports) (a : ReplayAnswer) → IsBuilt app → LinesGive app 1 None (remaining [] p.left) p.left_after p.held p.held_after a → ReplayedGives app p (ended_by a)
-replayed_gives app p answer.Done built h = (writes_whole app p built (writes app p done h.0), h.1)
-replayed_gives app p (answer.BadLine j) built h = writes app p (bad_line j) h
-replayed_gives app p (answer.NoSession j) built h = writes app p (no_session j) h
-replayed_gives app p answer.ReadFault built h = writes_front app p h
-replayed_gives app p answer.WriteFault built h = writes_front app p h
-replayed_gives app p answer.Memory built h = writes_front app p h
+writes_whole : (app : Shape) (p : Ports) → Writes app p done → WritesWhole app p
+writes_whole app p w = record { output = w.output; sank = w.sank; is = whole_end app p.left w.output w.is; taken = taken_end app p.left w.output w.is }
+
+pub replayed_gives : (app : Shape) (p : Ports) (a : ReplayAnswer) → LinesGive app 1 [] (remaining [] p.left) p.left_after p.held p.held_after a → ReplayedGives app p (ended_by a)
+replayed_gives app p answer.Done h = (writes_whole app p (writes app p done h.0), h.1)
+replayed_gives app p (answer.BadLine j) h = writes app p (bad_line j) h
+replayed_gives app p (answer.NoSession j) h = writes app p (no_session j) h
+replayed_gives app p answer.ReadFault h = writes_front app p h
+replayed_gives app p answer.WriteFault h = writes_front app p h
+replayed_gives app p answer.Memory h = writes_front app p h
 
 -- ---- nothing was done for want of memory
 
@@ -71,9 +75,9 @@ pub append_nothing : (known : Option (List ℕ)) → append_known known [] ≡ k
 append_nothing None = refl
 append_nothing (Some xs) = ap Some (append-nil xs)
 
-nothing_front : (app : Shape) (left : Option (List ℕ)) → IfSome left (λ bytes. (more : List ℕ) × ((replayed app bytes).output ≡ [] ++ more))
+nothing_front : (app : Shape) (left : Option (List ℕ)) → IfSome left (λ bytes. (more : List ℕ) × ((replayed_today app bytes).output ≡ [] ++ more))
 nothing_front app None = tt
-nothing_front app (Some bytes) = ((replayed app bytes).output, refl)
+nothing_front app (Some bytes) = ((replayed_today app bytes).output, refl)
 
 pub untouched_front : (app : Shape) (p : Ports) → IsUntouched p → WritesFront app p
 untouched_front app p h = record { output = []; sank = h.written ∙ sym (append_nothing p.held); front = nothing_front app p.left }
@@ -188,7 +192,7 @@ app_files c r p ended.Memory before now g = tt
 lines_front : (app : Shape) (p : Ports) (end : ReplayEnd) → Writes app p end → WritesFront app p
 lines_front app p end h = record { output = h.output; sank = h.sank; front = by p.left h.is }
   where
-    by : (left : Option (List ℕ)) → IfSome left (λ bytes. replayed app bytes ≡ record { output = h.output; end = end }) → IfSome left (λ bytes. (more : List ℕ) × ((replayed app bytes).output ≡ h.output ++ more))
+    by : (left : Option (List ℕ)) → IfSome left (λ bytes. replayed_today app bytes ≡ record { output = h.output; end = end }) → IfSome left (λ bytes. (more : List ℕ) × ((replayed_today app bytes).output ≡ h.output ++ more))
     by None is = tt
     by (Some bytes) is = ([], ap (λ r. r.output) is ∙ sym (append-nil h.output))
 

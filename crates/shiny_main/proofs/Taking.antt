@@ -1,76 +1,145 @@
 -- A client message of a transcript's line, from the code's answer to the definition's replay.
-use Rattle.std.proofs.Common.{◌≡◌, ℕ, ◌≤◌, Bool, true, false, not, ◌&&◌, List, [], ◌∷◌, Option, Some, None, Result, Ok, Err, IfOk, refl, sym, ap, ◌∙◌, subst, arith}
-use Rattle.std.specs.Prelude.{nat_le, nat_eq, bytes_eq, if◌then◌else◌}
-use Rattle.std.proofs.lemmas.Bool.Decides.{nat_tests}
+use Rattle.std.proofs.Common.{◌≡◌, ℕ, suc, ◌+◌, ◌*◌, ◌≤◌, Bool, true, false, not, ◌&&◌, List, [], ◌∷◌, ◌++◌, length, Option, Some, None, Result, Ok, Err, IfOk, refl, sym, ap, ◌∙◌, subst, arith, inl, inr}
+use Rattle.std.specs.Prelude.{nat_le, nat_lt, ◌||◌, nat_eq, bytes_eq, is_some, if◌then◌else◌}
+use Rattle.std.proofs.lemmas.Bool.{le-ltb}
+use Rattle.std.proofs.lemmas.Bool.Decides.{nat_tests, leb_tells}
 use Rattle.app_tree.specs.Tree.{Shape}
+use Rattle.shiny_json.specs.Client.{message_limit}
 use Rattle.shiny_json.specs.declared.message.Pair.{Pair}
+use Rattle.session_model.specs.declared.event.Event.{Event}
+use Rattle.session_model.specs.declared.event.Event.TheVariants as event
 use Rattle.session_model.specs.declared.event.Event.TheVariants.{Text}
-use Rattle.session_model.specs.EarlyAlone.{Ending, spent, ending, course_of}
-use Rattle.session_model.specs.Early.{early_pairs}
-use Rattle.session_model.specs.EarlyTranscript.{Open, with_event, event_output, recv, Replayed, stopped, bad_line, after_output, received, if_early, is_taken, line_count_limit}
-use Rattle.session_model.proofs.EarlyMessages.{early_init, early_update}
+use Rattle.session_model.specs.Alone.{Ending, spent, ending, course_of}
+use Rattle.session_model.specs.Transcript.{Line, recv, ends, closes, Open, opened, with_event, event_output, text_bytes, is_full, is_over, session_of, with_session, Replayed, Rest, after_output, stepped, step_by, step, taken, received, replay_line}
+use Rattle.session_model.specs.TakenLines.{line_count_limit, is_first, is_of_one, is_taken, taken_pairs, taken_line}
+use Rattle.session_model.proofs.TakenReplay.{taken_init, taken_update, taken_short}
 use Rattle.flush_cycle.specs.declared.stage.Stage.{Stage}
 use Rattle.flush_cycle.specs.declared.stage.Stage.TheVariants as stage
 use Rattle.shiny_main.specs.declared.replay.Taken.{Taken}
-use Rattle.shiny_main.specs.declared.replay.Taken.TheVariants as taken
+use Rattle.shiny_main.specs.declared.replay.Taken.TheVariants as code
 use Rattle.shiny_main.specs.declared.session.OpenSession.{OpenSession}
 use Rattle.shiny_main.specs.declared.session.Answered.{Answered}
-use Rattle.shiny_main.specs.Replaying.{EndsSo, HoldsOpen, AnswersFirst, AnswersLater, Updates, TakesRecv, GoesOn}
+use Rattle.shiny_main.specs.Messages.{message_of}
+use Rattle.shiny_main.specs.Replaying.{EndsSo, HoldsOpen, IsShort, AnswersFirst, AnswersLater, Updates, TakesLine, GoesOn}
 
-pub fits_limit : (k : ℕ) → k ≤ 200 → nat_le k line_count_limit ≡ true
+-- ---- how full a journal is
+
+length-more : (journal : List Event) (ev : Event) → length (journal ++ ev ∷ []) ≡ suc (length journal)
+length-more [] ev = refl
+length-more (e ∷ journal) ev = ap suc (length-more journal ev)
+
+bytes-more : (journal : List Event) (t : List ℕ) → text_bytes (journal ++ Text t ∷ []) ≡ text_bytes journal + length t
+bytes-more [] t = omega arith
+bytes-more (event.Text u ∷ journal) t = let h = bytes-more journal t in omega (h, arith)
+bytes-more (event.Other ∷ journal) t = bytes-more journal t
+bytes-more (event.TaskEnd n m ∷ journal) t = bytes-more journal t
+bytes-more (event.End ∷ journal) t = bytes-more journal t
+
+-- no journal of so few messages is full
+pub not_full : (k : ℕ) (s : Open) → IsShort k s → is_full s.journal ≡ false
+not_full k s h =
+    let few = h.few in let within = h.within in let short = h.short in
+    let many : nat_le 250000 (length s.journal) ≡ false = elim (leb_tells 250000 (length s.journal)) [ inl p ↦ absurd (omega (p.1, few, within, arith)) | inr p ↦ p.0 ] in
+    let long : nat_lt 16777216 (text_bytes s.journal) ≡ false = le-ltb 16777216 (text_bytes s.journal) (omega (few, within, short, arith)) in
+    ap (λ b. b || nat_lt 16777216 (text_bytes s.journal)) many ∙ long
+
+short_after : (k : ℕ) (s : Open) (text : List ℕ) → k ≤ line_count_limit → length s.journal ≤ k → text_bytes s.journal ≤ message_limit * length s.journal → length text ≤ message_limit
+    → IsShort (suc k) (with_event (Text text) s)
+short_after k s text within few short h = record {
+  few = let one = length-more s.journal (Text text) in omega (few, one, arith);
+  within = omega (within, arith);
+  short = let one = length-more s.journal (Text text) in let bytes = bytes-more s.journal text in omega (short, one, bytes, h, arith);
+}
+
+-- ---- a line that is taken
+
+fits_limit : (k : ℕ) → k ≤ line_count_limit → nat_le k line_count_limit ≡ true
 fits_limit k h = grind (arith, nat_tests)
 
 pub same_bytes : (xs : List ℕ) → bytes_eq xs xs ≡ true
 same_bytes [] = refl
 same_bytes (x ∷ xs) = let one : nat_eq x x ≡ true = grind (arith, nat_tests) in ap (λ b. b && bytes_eq xs xs) one ∙ same_bytes xs
 
--- a line of this label is the session's
-taken_is : (k : ℕ) (label : List ℕ) (s : Open) → k ≤ 200 → label ≡ s.label → is_taken k label s ≡ true
-taken_is k label s within same = ap (λ b. b && bytes_eq label s.label) (fits_limit k within) ∙ ap (λ l. bytes_eq l s.label) same ∙ same_bytes s.label
+module _ (app : Shape) (k : ℕ) (sessions : List Open) (label text : List ℕ) where
+  abbrev said : Option Line
+  said = taken_line app k sessions (Some (recv label text))
 
-goes_is : (app : Shape) (k : ℕ) (first : Bool) (label text : List ℕ) (s : Open) (pairs : List Pair) (output : List ℕ) (next : Option Open → Replayed)
-    → is_taken k label s ≡ true → early_pairs app first text ≡ Some pairs → ending app s.journal ≡ None → output ≡ event_output app (Text text) s
-    → (if is_taken k label s then if_early app k text s (early_pairs app first text) next else stopped (bad_line k)) ≡ after_output output (next (Some (with_event (Text text) s)))
-goes_is app k first label text s pairs output next taken early none out =
-    ap (λ b. if b then if_early app k text s (early_pairs app first text) next else stopped (bad_line k)) taken ∙ ap (λ o. if_early app k text s o next) early
-    ∙ ap (λ e. received app k (Text text) s e next) none ∙ ap (λ o. after_output o (next (Some (with_event (Text text) s)))) (sym out)
+  taken_is : (pairs : List Pair) → k ≤ line_count_limit → is_of_one label sessions ≡ true → taken_pairs app (is_first sessions) text ≡ Some pairs → is_taken app k sessions label text ≡ true
+  taken_is pairs within one taken =
+      ap (λ b. b && is_of_one label sessions && is_some (taken_pairs app (is_first sessions) text)) (fits_limit k within)
+      ∙ ap (λ b. b && is_some (taken_pairs app (is_first sessions) text)) one ∙ ap is_some taken
 
-pub first_goes : (app : Shape) (k : ℕ) (label text : List ℕ) (pairs : List Pair) (answered : Answered) → k ≤ 200 → early_pairs app true text ≡ Some pairs → AnswersFirst app label pairs answered
-    → GoesOn app k None (Some (recv label text)) answered
-first_goes app k label text pairs answered within early answers =
-    let s : Open = record { label = label; journal = [] } in
-    let answer = answers text (early_init app text pairs early) in
+  said_is : (pairs : List Pair) → k ≤ line_count_limit → is_of_one label sessions ≡ true → taken_pairs app (is_first sessions) text ≡ Some pairs → said ≡ Some (recv label text)
+  said_is pairs within one taken = ap (λ b. if b then Some (recv label text) else None) (taken_is pairs within one taken)
+
+pub first_goes : (app : Shape) (k : ℕ) (label text : List ℕ) (pairs : List Pair) (answered : Answered) → k ≤ line_count_limit → taken_pairs app true text ≡ Some pairs → AnswersFirst app label pairs answered
+    → GoesOn app k [] (taken_line app k [] (Some (recv label text))) answered
+first_goes app k label text pairs answered within form answers =
+    let s : Open = opened label in
+    let answer = answers text (taken_init app text pairs form) in
+    let after = with_event (Text text) s in
     record {
       within = within;
-      after = with_event (Text text) s;
+      after = after;
       holds = answer.holds;
-      is = λ next. goes_is app k true label text s pairs answered.output next (taken_is k label s within refl) early refl answer.output;
+      short = short_after k s text within (omega arith) (omega arith) (taken_short app true text pairs form);
+      is = λ next. ap (λ o. replay_line app k [] o next) (said_is app k [] label text pairs within refl form) ∙ ap (λ o. after_output o (next (after ∷ []))) (sym answer.output);
     }
 
-pub later_goes : (app : Shape) (k : ℕ) (s : Open) (code : OpenSession) (label text : List ℕ) (pairs : List Pair) (answered : Answered) → k ≤ 200 → label ≡ s.label → early_pairs app false text ≡ Some pairs
-    → HoldsOpen app s code → code.flusher.stage ≡ stage.Open → AnswersLater code pairs answered → GoesOn app k (Some s) (Some (recv label text)) answered
-later_goes app k s code label text pairs answered within same early holds at answers =
-    let answer = answers app s text holds at (early_update app text pairs early) in
-    let none : ending app s.journal ≡ None = subst (λ b. EndsSo b (course_of app s.journal).ending) at holds.ending in
-    record {
-      within = within;
-      after = with_event (Text text) s;
-      holds = answer.holds;
-      is = λ next. goes_is app k false label text s pairs answered.output next (taken_is k label s within same) early none answer.output;
-    }
+-- a session of its own name is the one that is open
+module _ (app : Shape) (k : ℕ) (s : Open) (label text : List ℕ) (pairs : List Pair) (within : k ≤ line_count_limit) (same : label ≡ s.label) (form : taken_pairs app false text ≡ Some pairs) where
+  its_name : bytes_eq label s.label ≡ true
+  its_name = ap (λ l. bytes_eq l s.label) same ∙ same_bytes s.label
+
+  its_line : taken_line app k (s ∷ []) (Some (recv label text)) ≡ Some (recv label text)
+  its_line = said_is app k (s ∷ []) label text pairs within (ap (λ b. b && true) its_name) form
+
+  its_session : (next : Rest) → replay_line app k (s ∷ []) (taken_line app k (s ∷ []) (Some (recv label text))) next ≡ taken app k (s ∷ []) (Text text) s (is_over app s) next
+  its_session next =
+      ap (λ o. replay_line app k (s ∷ []) o next) its_line
+      ∙ ap (λ b. received app k (s ∷ []) (Text text) label (if b then Some s else None) next) its_name
+
+  pub later_goes : (session : OpenSession) (answered : Answered) → HoldsOpen app s session → IsShort k s → session.flusher.stage ≡ stage.Open → AnswersLater session pairs answered
+      → GoesOn app k (s ∷ []) (taken_line app k (s ∷ []) (Some (recv label text))) answered
+  later_goes session answered holds short at answers =
+      let answer = answers app s text holds at (taken_update app text pairs form) in
+      let after = with_event (Text text) s in
+      let none : ending app s.journal ≡ None = subst (λ b. EndsSo b (course_of app s.journal).ending) at holds.ending in
+      let open_ : is_over app s ≡ false = ap (λ b. b || is_some (ending app s.journal)) holds.goes_on ∙ ap is_some none in
+      record {
+        within = within;
+        after = after;
+        holds = answer.holds;
+        short = short_after k s text within short.few short.short (taken_short app false text pairs form);
+        is = λ next. its_session next ∙ ap (λ b. taken app k (s ∷ []) (Text text) s b next) open_
+            ∙ ap (λ b. stepped (s ∷ []) (step_by b app (Text text) s) next) (not_full k s short)
+            ∙ ap (λ b. after_output (event_output app (Text text) s) (next (if b then after ∷ [] else s ∷ after ∷ []))) (same_bytes s.label)
+            ∙ ap (λ o. after_output o (next (after ∷ []))) (sym answer.output);
+      }
+
+  pub later_over : (end : Ending) → ending app s.journal ≡ Some end → s.full ≡ false → TakesLine app k (s ∷ []) (taken_line app k (s ∷ []) (Some (recv label text))) code.NoSession
+  later_over end e full =
+      let over : is_over app s ≡ true = ap (λ b. b || is_some (ending app s.journal)) full ∙ ap is_some e in
+      λ next. its_session next ∙ ap (λ b. taken app k (s ∷ []) (Text text) s b next) over
 
 over_is : (at : Stage) (end : Option Ending) → EndsSo at end → (at ≡ stage.Open → ⊥) → end ≡ Some spent
 over_is stage.New end e h = absurd e
 over_is stage.Open end e h = absurd (h refl)
 over_is stage.Over end e h = e
 
-pub later_takes : (app : Shape) (k : ℕ) (s : Open) (code : OpenSession) (label text : List ℕ) (pairs : List Pair) (t : Taken) → k ≤ 200 → label ≡ s.label → early_pairs app false text ≡ Some pairs
-    → HoldsOpen app s code → Updates code pairs t → TakesRecv app k (Some s) (Some (recv label text)) t
-later_takes app k s code label text pairs (taken.Answered answered) within same early holds u = later_goes app k s code label text pairs answered within same early holds u.0 u.1
-later_takes app k s code label text pairs taken.Bad within same early holds u = absurd u
-later_takes app k s code label text pairs taken.NoSession within same early holds u = λ next.
-    ap (λ b. if b then if_early app k text s (early_pairs app false text) next else stopped (bad_line k)) (taken_is k label s within same) ∙ ap (λ o. if_early app k text s o next) early
-    ∙ ap (λ e. received app k (Text text) s e next) (over_is code.flusher.stage (ending app s.journal) holds.ending u)
+pub later_takes : (app : Shape) (k : ℕ) (s : Open) (session : OpenSession) (label text : List ℕ) (pairs : List Pair) (t : Taken) → k ≤ line_count_limit → label ≡ s.label → taken_pairs app false text ≡ Some pairs
+    → HoldsOpen app s session → IsShort k s → Updates session pairs t → TakesLine app k (s ∷ []) (taken_line app k (s ∷ []) (Some (recv label text))) t
+later_takes app k s session label text pairs (code.Answered answered) within same form holds short u = later_goes app k s label text pairs within same form session answered holds short u.0 u.1
+later_takes app k s session label text pairs code.Bad within same form holds short u = absurd u
+later_takes app k s session label text pairs code.NoSession within same form holds short u =
+    later_over app k s label text pairs within same form spent (over_is session.flusher.stage (ending app s.journal) holds.ending u) holds.goes_on
+
+-- what is taken of a line is what is taken of its message
+pub taken_message : (app : Shape) (k : ℕ) (sessions : List Open) (o : Option Line) → taken_line app k sessions o ≡ taken_line app k sessions (message_of o)
+taken_message app k sessions None = refl
+taken_message app k sessions (Some (recv label text)) = refl
+taken_message app k sessions (Some (ends label t)) = refl
+taken_message app k sessions (Some (closes label)) = refl
 
 pub if_ok : {A E : Type 0} (P Q : A → Type 0) (r : Result A E) → ((a : A) → P a → Q a) → IfOk r P → IfOk r Q
 if_ok P Q (Ok a) h p = h a p

@@ -10,8 +10,8 @@ use Rattle.app_check.specs.declared.error.LoadError.{LoadError}
 use Rattle.app_check.specs.Text.{refusal_text}
 use Rattle.app_printer.specs.Canonical.{canonical_text}
 use Rattle.app_printer.specs.Laws.{ReadsBack}
-use Rattle.session_model.specs.Transcript as whole
-use Rattle.session_model.specs.EarlyTranscript.{ReplayEnd, bad_line, no_session, replayed}
+use Rattle.session_model.specs.Transcript.{ReplayEnd, done, bad_line, no_session, replayed}
+use Rattle.session_model.specs.TakenLines.{replayed_today}
 use Rattle.flush_cycle.specs.Built.{first_unbuilt}
 use Rattle.shiny_main.specs.declared.words.Command.{Command}
 use Rattle.shiny_main.specs.declared.words.Command.TheVariants as command
@@ -62,24 +62,25 @@ Prints app p e = Says (canonical_text app) p e × IsReadBack app e
 
 -- ---- a replay
 
--- the output of the whole replay was written, and it ended so
+-- the output of the replay of the lines that are taken today was written, and it ended so
 pub record Writes (app : Shape) (p : Ports) (end : ReplayEnd) : Type 0 where
   pub output : List ℕ
   pub sank : p.held_after ≡ append_known p.held output
-  pub is : IfSome p.left (λ bytes. replayed app bytes ≡ record { output = output; end = end })
+  pub is : IfSome p.left (λ bytes. replayed_today app bytes ≡ record { output = output; end = end })
 
 -- the output was written that the transcript has by the definitions of the whole language and of several sessions, by
--- which each of its lines is taken
+-- which each of its lines is taken; and each of them is taken today
 pub record WritesWhole (app : Shape) (p : Ports) : Type 0 where
   pub output : List ℕ
   pub sank : p.held_after ≡ append_known p.held output
-  pub is : IfSome p.left (λ bytes. whole.replayed app bytes ≡ record { output = output; end = whole.done })
+  pub is : IfSome p.left (λ bytes. replayed app bytes ≡ record { output = output; end = done })
+  pub taken : IfSome p.left (λ bytes. (replayed_today app bytes).end ≡ done)
 
 -- a front of it was written
 pub record WritesFront (app : Shape) (p : Ports) : Type 0 where
   pub output : List ℕ
   pub sank : p.held_after ≡ append_known p.held output
-  pub front : IfSome p.left (λ bytes. (more : List ℕ) × ((replayed app bytes).output ≡ output ++ more))
+  pub front : IfSome p.left (λ bytes. (more : List ℕ) × ((replayed_today app bytes).output ≡ output ++ more))
 
 -- at Done all lines were taken and the input is at its end; at BadLine and NoSession that line was refused
 abbrev pub ReplayedGives : Shape → Ports → Ended → Type 0

@@ -1,4 +1,5 @@
 pub mod Lines
+pub mod Messages
 pub mod Replaying
 pub mod Statuses
 pub mod Words

@@ -1,5 +1,5 @@
 -- What the parts of a replay answer, in the words of its definition.
-use Rattle.std.specs.Prelude.{◌≡◌, ◌≢◌, ◌≤◌, ℕ, suc, Bool, true, false, List, [], ◌++◌, Option, Some, None, Result, Ok, Err, IfSome, ⊤, codes}
+use Rattle.std.specs.Prelude.{◌≡◌, ◌≢◌, ◌≤◌, ◌*◌, ℕ, suc, Bool, true, false, List, [], ◌∷◌, ◌++◌, length, Option, Some, None, Result, Ok, Err, IfSome, ⊤, codes}
 use Rattle.std.specs.Option.{option_map}
 use Rattle.std.specs.Io.KnownBytes.{append_known, IsAtEnd}
 use Rattle.rx_ports.specs.Faults.{Rose}
@@ -9,10 +9,11 @@ use Rattle.app_tree.specs.Tree.{Shape}
 use Rattle.app_tree.specs.View.{shape_of}
 use Rattle.shiny_json.specs.declared.message.Pair.{Pair}
 use Rattle.shiny_json.specs.declared.message.Client.TheVariants.{Init, Update}
-use Rattle.shiny_json.specs.Client.{client_message}
+use Rattle.shiny_json.specs.Client.{message_limit, client_message}
 use Rattle.session_model.specs.declared.event.Event.TheVariants.{Text}
-use Rattle.session_model.specs.EarlyAlone.{Ending, spent, course_of}
-use Rattle.session_model.specs.EarlyTranscript.{Open, with_event, event_output, Line, ReplayEnd, done, bad_line, no_session, Replayed, stopped, after_output, replay_line, replay_from, line_count_limit}
+use Rattle.session_model.specs.Alone.{Ending, spent, course_of}
+use Rattle.session_model.specs.Transcript.{Open, opened, with_event, event_output, text_bytes, Line, ReplayEnd, done, bad_line, no_session, Replayed, Rest, stopped, after_output, replay_line, replay_from}
+use Rattle.session_model.specs.TakenLines.{line_count_limit, taken_by}
 use Rattle.session_model.specs.Output.{send_lines, over_text}
 use Rattle.flush_cycle.specs.declared.stage.Stage.{Stage}
 use Rattle.flush_cycle.specs.declared.stage.Stage.TheVariants as stage
@@ -38,6 +39,13 @@ pub record HoldsOpen (app : Shape) (s : Open) (code : OpenSession) : Type 0 wher
   pub state : code.flusher.state ≡ (course_of app s.journal).state
   pub begun : (course_of app s.journal).begun ≡ true
   pub ending : EndsSo code.flusher.stage (course_of app s.journal).ending
+  pub goes_on : s.full ≡ false
+
+-- before line k its journal is far from full
+pub record IsShort (k : ℕ) (s : Open) : Type 0 where
+  pub few : length s.journal ≤ k
+  pub within : k ≤ suc line_count_limit
+  pub short : text_bytes s.journal ≤ message_limit * length s.journal
 
 abbrev pub budget_line : List ℕ → Bool → List ℕ
 budget_line label true = over_text label (codes "budget")
@@ -54,7 +62,7 @@ pub record AnswersText (app : Shape) (s : Open) (text : List ℕ) (answered : An
 
 -- whatever text says so as a session's first
 abbrev pub AnswersFirst : Shape → List ℕ → List Pair → Answered → Type 0
-AnswersFirst app label pairs answered = (text : List ℕ) → client_message text ≡ Init pairs → AnswersText app (record { label = label; journal = [] }) text answered
+AnswersFirst app label pairs answered = (text : List ℕ) → client_message text ≡ Init pairs → AnswersText app (opened label) text answered
 
 -- and as a later one of a session that goes on
 abbrev pub AnswersLater : OpenSession → List Pair → Answered → Type 0
@@ -62,24 +70,25 @@ AnswersLater code pairs answered = (app : Shape) (s : Open) (text : List ℕ) �
 
 -- ---- lines
 
--- the code's session, if one is open, is the definition's
-abbrev pub HoldsSession : Shape → Option Open → Option OpenSession → Type 0
-HoldsSession app None None = ⊤
-HoldsSession app (Some s) (Some code) = HoldsOpen app s code
-HoldsSession app _ _ = ⊥
+-- the code's session, if one is open, is the definition's one
+abbrev pub HoldsSession : Shape → ℕ → List Open → Option OpenSession → Type 0
+HoldsSession app k [] None = ⊤
+HoldsSession app k (s ∷ []) (Some code) = HoldsOpen app s code × IsShort k s
+HoldsSession app k _ _ = ⊥
 
 -- the line was answered, and the replay goes on with the session after it
-pub record GoesOn (app : Shape) (k : ℕ) (session : Option Open) (line : Option Line) (answered : Answered) : Type 0 where
+pub record GoesOn (app : Shape) (k : ℕ) (sessions : List Open) (said : Option Line) (answered : Answered) : Type 0 where
   pub within : k ≤ line_count_limit
   pub after : Open
   pub holds : HoldsOpen app after answered.session
-  pub is : (next : Option Open → Replayed) → replay_line app k session line next ≡ after_output answered.output (next (Some after))
+  pub short : IsShort (suc k) after
+  pub is : (next : Rest) → replay_line app k sessions said next ≡ after_output answered.output (next (after ∷ []))
 
 -- what a line comes to, by what it says
-abbrev pub TakesRecv : Shape → ℕ → Option Open → Option Line → Taken → Type 0
-TakesRecv app k session line (taken.Answered answered) = GoesOn app k session line answered
-TakesRecv app k session line taken.Bad = (next : Option Open → Replayed) → replay_line app k session line next ≡ stopped (bad_line k)
-TakesRecv app k session line taken.NoSession = (next : Option Open → Replayed) → replay_line app k session line next ≡ stopped (no_session k)
+abbrev pub TakesLine : Shape → ℕ → List Open → Option Line → Taken → Type 0
+TakesLine app k sessions said (taken.Answered answered) = GoesOn app k sessions said answered
+TakesLine app k sessions said taken.Bad = (next : Rest) → replay_line app k sessions said next ≡ stopped (bad_line k)
+TakesLine app k sessions said taken.NoSession = (next : Rest) → replay_line app k sessions said next ≡ stopped (no_session k)
 
 -- an update was handed to a session: it was answered where the session went on, and refused where it was over
 abbrev pub Updates : OpenSession → List Pair → Taken → Type 0
@@ -90,28 +99,29 @@ Updates code pairs taken.NoSession = code.flusher.stage ≢ stage.Open
 -- ---- turns
 
 -- the lines that are left end the replay so, and this was written
-pub record Ends (app : Shape) (k : ℕ) (session : Option Open) (lines : Option (List (List ℕ))) (before after : Option (List ℕ)) (end : ReplayEnd) : Type 0 where
+pub record Ends (app : Shape) (k : ℕ) (sessions : List Open) (lines : Option (List (List ℕ))) (before after : Option (List ℕ)) (end : ReplayEnd) : Type 0 where
   pub output : List ℕ
   pub sank : after ≡ append_known before output
-  pub is : IfSome lines (λ ls. replay_from app k session ls ≡ record { output = output; end = end })
+  pub is : IfSome lines (λ ls. replay_from app (taken_by app) k sessions ls ≡ record { output = output; end = end })
 
 -- a front of their output was written
-pub record Stops (app : Shape) (k : ℕ) (session : Option Open) (lines : Option (List (List ℕ))) (before after : Option (List ℕ)) : Type 0 where
+pub record Stops (app : Shape) (k : ℕ) (sessions : List Open) (lines : Option (List (List ℕ))) (before after : Option (List ℕ)) : Type 0 where
   pub output : List ℕ
   pub sank : after ≡ append_known before output
-  pub front : IfSome lines (λ ls. (more : List ℕ) × ((replay_from app k session ls).output ≡ output ++ more))
+  pub front : IfSome lines (λ ls. (more : List ℕ) × ((replay_from app (taken_by app) k sessions ls).output ≡ output ++ more))
 
 -- one line was answered, and the replay goes on with those behind it
-pub record Went (app : Shape) (k : ℕ) (session : Option Open) (code : OpenSession) (lines rest : Option (List (List ℕ))) (before after : Option (List ℕ)) : Type 0 where
+pub record Went (app : Shape) (k : ℕ) (sessions : List Open) (code : OpenSession) (lines rest : Option (List (List ℕ))) (before after : Option (List ℕ)) : Type 0 where
   pub within : k ≤ line_count_limit
   pub next : Open
   pub holds : HoldsOpen app next code
+  pub short : IsShort (suc k) next
   pub output : List ℕ
   pub sank : after ≡ append_known before output
-  pub is : option_map (replay_from app k session) lines ≡ option_map (λ ls. after_output output (replay_from app (suc k) (Some next) ls)) rest
+  pub is : option_map (replay_from app (taken_by app) k sessions) lines ≡ option_map (λ ls. after_output output (replay_from app (taken_by app) (suc k) (next ∷ []) ls)) rest
 
 -- how a replay ended, with what was written
-abbrev pub ReplayGives : Shape → ℕ → Option Open → Option (List (List ℕ)) → Option (List ℕ) → Option (List ℕ) → Option (List ℕ) → ReplayAnswer → Type 0
+abbrev pub ReplayGives : Shape → ℕ → List Open → Option (List (List ℕ)) → Option (List ℕ) → Option (List ℕ) → Option (List ℕ) → ReplayAnswer → Type 0
 ReplayGives app k s lines left before after answer.Done = Ends app k s lines before after done × IsAtEnd left
 ReplayGives app k s lines left before after (answer.BadLine j) = Ends app k s lines before after (bad_line j)
 ReplayGives app k s lines left before after (answer.NoSession j) = Ends app k s lines before after (no_session j)
@@ -119,7 +129,7 @@ ReplayGives app k s lines left before after answer.ReadFault = Stops app k s lin
 ReplayGives app k s lines left before after answer.WriteFault = Stops app k s lines before after
 ReplayGives app k s lines left before after answer.Memory = Stops app k s lines before after
 
-abbrev pub TurnGives : Shape → ℕ → Option Open → Option (List (List ℕ)) → Option (List (List ℕ)) → Option (List ℕ) → Option (List ℕ) → Option (List ℕ) → Turn → Type 0
+abbrev pub TurnGives : Shape → ℕ → List Open → Option (List (List ℕ)) → Option (List (List ℕ)) → Option (List ℕ) → Option (List ℕ) → Option (List ℕ) → Turn → Type 0
 TurnGives app k s lines rest left before after (turn.Goes code) = Went app k s code lines rest before after
 TurnGives app k s lines rest left before after (turn.Ends a) = ReplayGives app k s lines left before after a
 

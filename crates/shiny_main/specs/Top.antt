@@ -6,7 +6,8 @@ use Rattle.rx_ports.specs.Files.{content_of}
 use Rattle.rx_ports.specs.declared.files.NamedFile.{NamedFile}
 use Rattle.app_tree.specs.Tree.{Shape}
 use Rattle.app_check.specs.Load.{loaded}
-use Rattle.session_model.specs.EarlyTranscript.{done, replayed}
+use Rattle.session_model.specs.Transcript.{done}
+use Rattle.session_model.specs.TakenLines.{replayed_today}
 use Rattle.flush_cycle.specs.Built.{IsBuilt}
 use Rattle.shiny_main.specs.declared.words.Command.{Command}
 use Rattle.shiny_main.specs.declared.words.Command.TheVariants as command
@@ -72,7 +73,7 @@ pub record IsReplayable (app : Shape) (left : Option (List ℕ)) : Type 0 where
   pub bytes : List ℕ
   pub built : IsBuilt app
   pub comes : left ≡ Some bytes
-  pub whole : (replayed app bytes).end ≡ done
+  pub whole : (replayed_today app bytes).end ≡ done
 
 abbrev pub IsReady : Command → Shape → Option (List ℕ) → Type 0
 IsReady command.Check app left = ⊤

@@ -1,8 +1,10 @@
-ghost use Rattle.std.specs.Prelude.{◌≡◌};
+ghost use Rattle.std.specs.Prelude.{◌≡◌, List};
 ghost use Rattle.std.specs.Option.{option_map};
 ghost use Rattle.std.specs.List.{list_all};
-ghost use Rattle.session_model.specs.EarlyTranscript.{recv, recv_of, parts_of, line_of};
+ghost use Rattle.app_tree.specs.Tree.{Node};
+ghost use Rattle.session_model.specs.Transcript.{recv, line_of};
 ghost use Rattle.session_model.specs.Lines.{is_label, is_label_byte};
+ghost use Rattle.shiny_main.specs.Messages.{message_of, message_behind, message_in};
 
 /// The most bytes of a line, without its line feed.
 pub const LINE_LIMIT: usize = 70_000;
@@ -37,7 +39,7 @@ fn is_label(name: &str) -> bool
 }
 
 fn recv_of<'a>(label: &'a str, rest: &'a str) -> Option<Recv<'a>>
-    ensures { option_map (λ r. recv r.label.now r.text.now) result ≡ recv_of label.now rest.now }
+    ensures { option_map (λ r. recv r.label.now r.text.now) result ≡ message_behind label.now rest.now }
 {
     match rest.split_once(' ') {
         Some(("recv", text)) => Some(Recv { label, text }),
@@ -46,7 +48,7 @@ fn recv_of<'a>(label: &'a str, rest: &'a str) -> Option<Recv<'a>>
 }
 
 fn parts_of(line: &str) -> Option<Recv<'_>>
-    ensures { option_map (λ r. recv r.label.now r.text.now) result ≡ parts_of line.now }
+    ensures { option_map (λ r. recv r.label.now r.text.now) result ≡ message_in line.now }
 {
     match line.split_once(' ') {
         Some((label, rest)) if is_label(label) => recv_of(label, rest),
@@ -54,9 +56,10 @@ fn parts_of(line: &str) -> Option<Recv<'_>>
     }
 }
 
-/// What a line says, or nothing where it is too long, isn't UTF-8 or has no such form.
+/// The client message that a line says, or nothing where it is too long, isn't UTF-8 or says no such one,
+/// whatever items the app has.
 pub fn line_of(line: &[u8]) -> Option<Recv<'_>>
-    ensures { option_map (λ r. recv r.label.now r.text.now) result ≡ line_of line.now }
+    ensures { (items : List Node) → option_map (λ r. recv r.label.now r.text.now) result ≡ message_of (line_of items line.now) }
 {
     if line.len() > LINE_LIMIT {
         return None;

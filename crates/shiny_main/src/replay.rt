@@ -1,14 +1,14 @@
-ghost use Rattle.std.specs.Prelude.{◌≡◌, Option, None, Some, IfOk};
+ghost use Rattle.std.specs.Prelude.{◌≡◌, List, [], ◌∷◌, Some, IfOk};
 ghost use Rattle.app_tree.specs.View.{shape_of};
-ghost use Rattle.session_model.specs.EarlyTranscript.{Open, line_of, recv as recv_line};
-ghost use Rattle.session_model.specs.Early.{early_pairs};
+ghost use Rattle.session_model.specs.Transcript.{Open, recv as recv_line};
+ghost use Rattle.session_model.specs.TakenLines.{taken_pairs, taken_line, taken_by};
 ghost use Rattle.flush_cycle.specs.Built.{IsBuilt};
-ghost use Rattle.shiny_main.specs.Replaying.{AnswersFirst, HoldsOpen, HoldsSession, Updates, TakesRecv};
+ghost use Rattle.shiny_main.specs.Replaying.{AnswersFirst, HoldsOpen, IsShort, HoldsSession, Updates, TakesLine};
 
 use crate::line::{Recv, line_of};
 use crate::session::{Answered, OpenSession, answer_first, answer_later};
 use app_tree::App;
-use flush_cycle::{Stage, read_early};
+use flush_cycle::{Stage, read_taken};
 use rx_value::{Memory, RxText};
 use shiny_json::ClientData;
 use std::alloc::Global;
@@ -28,16 +28,16 @@ pub enum Taken {
 }
 
 /// What a message sets, where its text has the form that is taken today.
-fn early_pairs(
+fn taken_pairs(
     alloc: Global,
     app: &App,
     first: bool,
     text: &str,
 ) -> Result<Option<ClientData>, Memory>
-    ensures { IfOk result (λ pairs. pairs ≡ early_pairs (shape_of app.now) first text.now) }
+    ensures { IfOk result (λ pairs. pairs ≡ taken_pairs (shape_of app.now) first text.now) }
 {
     let text = RxText::from_str(alloc, text)?;
-    read_early(alloc, app, first, &text)
+    read_taken(alloc, app, first, &text)
 }
 
 /// Opens a session of this label with its init.
@@ -56,12 +56,12 @@ fn opened(
 
 fn first_recv(alloc: Global, app: &Arc<App>, number: u64, recv: Recv<'_>) -> Result<Taken, Memory>
     requires { IsBuilt (shape_of app.now.value) }
-    ensures { IfOk result (λ t. TakesRecv (shape_of app.now.value) number None (Some (recv_line recv.entry.label.now recv.entry.text.now)) t) }
+    ensures { IfOk result (λ t. TakesLine (shape_of app.now.value) number [] (taken_line (shape_of app.now.value) number [] (Some (recv_line recv.entry.label.now recv.entry.text.now))) t) }
 {
     if number > LINE_COUNT_LIMIT {
         return Ok(Taken::Bad);
     }
-    match early_pairs(alloc, app, true, recv.text)? {
+    match taken_pairs(alloc, app, true, recv.text)? {
         Some(pairs) => {
             let answered = opened(alloc, app, recv.label, &pairs)?;
             Ok(Taken::Answered(answered))
@@ -77,7 +77,7 @@ fn later_recv(
     number: u64,
     recv: Recv<'_>,
 ) -> Result<Taken, Memory>
-    ensures { IfOk result (λ t. (s : Open) → HoldsOpen (shape_of app.now) s session → TakesRecv (shape_of app.now) number (Some s) (Some (recv_line recv.entry.label.now recv.entry.text.now)) t) }
+    ensures { IfOk result (λ t. (s : Open) → HoldsOpen (shape_of app.now) s session → IsShort number s → TakesLine (shape_of app.now) number (s ∷ []) (taken_line (shape_of app.now) number (s ∷ []) (Some (recv_line recv.entry.label.now recv.entry.text.now))) t) }
 {
     if number > LINE_COUNT_LIMIT {
         return Ok(Taken::Bad);
@@ -85,7 +85,7 @@ fn later_recv(
     if recv.label != session.label.as_str() {
         return Ok(Taken::Bad);
     }
-    match early_pairs(alloc, app, false, recv.text)? {
+    match taken_pairs(alloc, app, false, recv.text)? {
         Some(pairs) => update(alloc, session, &pairs),
         None => Ok(Taken::Bad),
     }
@@ -111,7 +111,7 @@ fn take_recv(
     recv: Recv<'_>,
 ) -> Result<Taken, Memory>
     requires { IsBuilt (shape_of app.now.value) }
-    ensures { IfOk result (λ t. (s : Option Open) → HoldsSession (shape_of app.now.value) s session → TakesRecv (shape_of app.now.value) number s (Some (recv_line recv.entry.label.now recv.entry.text.now)) t) }
+    ensures { IfOk result (λ t. (s : List Open) → HoldsSession (shape_of app.now.value) number s session → TakesLine (shape_of app.now.value) number s (taken_line (shape_of app.now.value) number s (Some (recv_line recv.entry.label.now recv.entry.text.now))) t) }
 {
     match session {
         None => first_recv(alloc, app, number, recv),
@@ -128,7 +128,7 @@ pub fn take_line(
     line: &[u8],
 ) -> Result<Taken, Memory>
     requires { IsBuilt (shape_of app.now.value) }
-    ensures { IfOk result (λ t. (s : Option Open) → HoldsSession (shape_of app.now.value) s session → TakesRecv (shape_of app.now.value) number s (line_of line.now) t) }
+    ensures { IfOk result (λ t. (s : List Open) → HoldsSession (shape_of app.now.value) number s session → TakesLine (shape_of app.now.value) number s (taken_by (shape_of app.now.value) number s line.now) t) }
 {
     match line_of(line) {
         Some(recv) => take_recv(alloc, app, session, number, recv),

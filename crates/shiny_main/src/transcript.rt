@@ -1,6 +1,6 @@
-ghost use Rattle.std.specs.Prelude.{◌≡◌, ◌≤◌, [], Option, None, IfOk, codes};
+ghost use Rattle.std.specs.Prelude.{◌≡◌, ◌≤◌, List, [], IfOk, codes};
 ghost use Rattle.app_tree.specs.View.{shape_of};
-ghost use Rattle.session_model.specs.EarlyTranscript.{Open};
+ghost use Rattle.session_model.specs.Transcript.{Open};
 ghost use Rattle.session_model.specs.Output.{over_text};
 ghost use Rattle.shiny_main.specs.Lines.{remaining};
 ghost use Rattle.flush_cycle.specs.Built.{IsBuilt};
@@ -106,7 +106,7 @@ fn take_turn<S: Source, K: Sink>(
     out: &mut K,
 ) -> Turn
     requires { IsBuilt (shape_of app.now.value) }
-    ensures gives { (s : Option Open) → HoldsSession (shape_of app.now.value) s session → TurnGives (shape_of app.now.value) number s (remaining lines.old (S.left input.old)) (remaining lines.new (S.left input.new)) (S.left input.new) (K.held out.old) (K.held out.new) result }
+    ensures gives { (s : List Open) → HoldsSession (shape_of app.now.value) number s session → TurnGives (shape_of app.now.value) number s (remaining lines.old (S.left input.old)) (remaining lines.new (S.left input.new)) (S.left input.new) (K.held out.old) (K.held out.new) result }
     ensures read_later { S.faults input.old ≤ S.faults input.new }
     ensures write_later { K.faults out.old ≤ K.faults out.new }
     ensures read { TurnReadFaults (S.faults input.old) (S.faults input.new) result }
@@ -146,7 +146,7 @@ pub fn replay<S: Source, K: Sink>(
     out: &mut K,
 ) -> Replayed
     requires { IsBuilt (shape_of app.now.value) }
-    ensures gives { ReplayGives (shape_of app.now.value) 1 None (remaining [] (S.left input.old)) (S.left input.new) (K.held out.old) (K.held out.new) result }
+    ensures gives { ReplayGives (shape_of app.now.value) 1 [] (remaining [] (S.left input.old)) (S.left input.new) (K.held out.old) (K.held out.new) result }
     ensures read_later { S.faults input.old ≤ S.faults input.new }
     ensures write_later { K.faults out.old ≤ K.faults out.new }
     ensures read { ReadFaults (S.faults input.old) (S.faults input.new) result }

@@ -6,4 +6,5 @@ pub mod CachedComputed
 pub mod MessageComputed
 pub mod PlotComputed
 pub mod LineComputed
+pub mod TakenComputed
 pub mod OutcomesComputed

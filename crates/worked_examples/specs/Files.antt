@@ -10,6 +10,7 @@ use Rattle.session_model.specs.declared.event.Event.{Event}
 use Rattle.session_model.specs.Alone.{Ending, ending, bodies_run}
 use Rattle.session_model.specs.Lines.{lines_of}
 use Rattle.session_model.specs.Transcript.{Replayed, replayed}
+use Rattle.session_model.specs.TakenLines.{replayed_today}
 
 -- these lines, each with its line feed
 abbrev pub lines : List (List ℕ) → List ℕ
@@ -27,6 +28,10 @@ of_file say file = of_app say (loaded file)
 -- the replay of a transcript
 abbrev pub file_replayed : List ℕ → List ℕ → Option Replayed
 file_replayed file transcript = of_file (λ app. replayed app transcript) file
+
+-- the replay of the lines that are taken today
+abbrev pub file_replayed_today : List ℕ → List ℕ → Option Replayed
+file_replayed_today file transcript = of_file (λ app. replayed_today app transcript) file
 
 -- how long an output is
 pub record Sizes : Type 0 where

@@ -6,4 +6,5 @@ pub mod CachedCases
 pub mod MessageCases
 pub mod PlotCases
 pub mod LineCases
+pub mod TakenCases
 pub mod OutcomeCases

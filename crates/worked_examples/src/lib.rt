@@ -11,6 +11,7 @@ mod observers;
 mod outcomes;
 mod outputs;
 mod plots;
+mod taken;
 mod tasks;
 mod transcripts;
 
@@ -33,6 +34,7 @@ pub use outputs::{
     output_that_runs_while_hidden, required_values, shared_expression, taken_branch,
 };
 pub use plots::{histogram, plot_of_a_text};
+pub use taken::{line_of_an_unknown_input, line_of_another_session, lines_that_are_taken};
 pub use tasks::{end_of_a_task_that_does_not_run, queued_invocation};
 pub use transcripts::{
     closed_session, empty_transcript, end_of_an_unknown_task, line_without_a_form,

@@ -1,4 +1,4 @@
-use Rattle.std.proofs.Common.{◌∙◌, ap, length, ◌≤◌, subst}
+use Rattle.std.proofs.Common.{◌∙◌, ap}
 use Rattle.app_tree.specs.View.{trees_of_terms}
 use Rattle.flush_cycle.specs.Built.{is_uncached}
 use Rattle.flush_cycle.proofs.Building.{some_keys}

@@ -1,8 +1,18 @@
-use Rattle.std.proofs.Common.{[]}
+use Rattle.std.proofs.Common.{ℕ, List, [], None, sym, subst}
 use Rattle.app_tree.specs.View.{shape_of}
 use Rattle.shiny_main.specs.Lines.{remaining}
-use Rattle.shiny_main.proofs.Replays.{replaying_more, ends_gives}
+use Rattle.shiny_main.proofs.Replays.{Replaying, replaying_first, replaying_more, ends_gives}
 use Rattle.shiny_main.proofs.transcript.replay.Goals as goal
+
+pub lines-init : goal.lines-init
+lines-init g c =
+    let left = g.S.Source.left c.args.input.now in
+    let held = g.K.Sink.held c.args.out.now in
+    let read = g.S.Source.faults c.args.input.now in
+    let wrote = g.K.Sink.faults c.args.out.now in
+    let app = shape_of c.args.app.now.value in
+    let from : List ℕ → Type 0 = λ t. Replaying app None 1 (remaining [] left) (remaining t left) held held read read wrote wrote in
+    subst from (sym c.new-lines.ensures) (replaying_first app (remaining [] left) held read wrote)
 
 pub lines-preserved : goal.lines-preserved
 lines-preserved g c =

@@ -1,0 +1,6 @@
+use Rattle.flush_cycle.specs.Targets.{is_declared}
+use Rattle.flush_cycle.proofs.Counted.{Counted}
+use Rattle.flush_cycle.proofs.sizes.declared_count.Given as goal
+
+abbrev pub invariant-loop-item : goal.invariant-loop-item
+invariant-loop-item l = Counted is_declared l.items l.count l.item-index
