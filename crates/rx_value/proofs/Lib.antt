@@ -2,3 +2,4 @@ pub mod Examples
 pub mod Division
 pub mod DecimalDigits
 pub mod Lists
+pub mod SameSources

@@ -1,15 +1,8 @@
 -- What is expected of a session.
 use Rattle.std.proofs.Common.{◌≡◌, ℕ, zero, suc, ◌+◌, ◌≤◌, Bool, true, false, List, [], ◌∷◌, ◌++◌, length, Option, Some, None, refl, sym, ap, ◌∙◌, arith, append_assoc}
 use Rattle.std.specs.Prelude.{slice_get, option_map, if◌then◌else◌}
-use Rattle.rx_value.specs.declared.source.SourceValue.{SourceValue}
-use Rattle.rx_value.specs.declared.source.SourceValue.TheVariants as source
-use Rattle.rx_value.specs.declared.source.TaskView.{TaskView}
-use Rattle.rx_value.specs.declared.source.TaskView.TheVariants as view
-use Rattle.rx_value.specs.declared.outcome.Outcome.{Outcome}
-use Rattle.rx_value.specs.declared.outcome.Outcome.TheVariants as outcome
-use Rattle.rx_value.specs.Value.{outcome_eq, view_eq, source_eq}
-use Rattle.rx_value.specs.Keys.{value_eq-itself}
-use Rattle.std.proofs.lemmas.Slice.Eq.{bytes_eq-Decides}
+use Rattle.rx_value.specs.Value.{source_eq}
+use Rattle.rx_value.proofs.SameSources.{source_eq-itself}
 use Rattle.app_tree.specs.Tree.{Node, Shape}
 use Rattle.app_tree.specs.Numbering.{readers}
 use Rattle.app_tree.specs.Current.{value_at}
@@ -23,31 +16,13 @@ use Rattle.session_model.specs.Laws.{EqualValueChangesNothing, IsSettled, DoneIs
 
 -- ---- a change
 
-outcome_itself : (o : Outcome) → outcome_eq o o ≡ true
-outcome_itself (outcome.Val x) = value_eq-itself x
-outcome_itself (outcome.Fail t) = (bytes_eq-Decides t t).1 refl
-outcome_itself outcome.Stop = refl
-outcome_itself outcome.Cancel = refl
-outcome_itself outcome.Running = refl
-
-view_itself : (v : TaskView) → view_eq v v ≡ true
-view_itself view.Initial = refl
-view_itself view.Running = refl
-view_itself (view.Success x) = value_eq-itself x
-view_itself (view.Error o) = outcome_itself o
-
-pub source_itself : (x : SourceValue) → source_eq x x ≡ true
-source_itself (source.Plain x) = value_eq-itself x
-source_itself (source.Task v) = view_itself v
-source_itself (source.Frozen x) = value_eq-itself x
-
 kept_where : {A : Type 0} (b : Bool) (x y : A) → b ≡ true → (if b then x else y) ≡ x
 kept_where true x y h = refl
 kept_where false x y h = cc
 
 pub equal_value_changes_nothing : EqualValueChangesNothing
 equal_value_changes_nothing state s x h =
-    kept_where (source_eq (value_at state.values s) x) state (changed_to s x state) (ap (λ v. source_eq v x) h ∙ source_itself x)
+    kept_where (source_eq (value_at state.values s) x) state (changed_to s x state) (ap (λ v. source_eq v x) h ∙ source_eq-itself x)
 
 -- ---- the flush
 
