@@ -6,7 +6,7 @@ use Rattle.app_tree.specs.declared.statement.Statement.{Statement}
 use Rattle.app_tree.specs.declared.draft_term.DraftTerm.{DraftTerm}
 use Rattle.app_tree.specs.declared.draft_item.DraftStatement.{DraftStatement}
 use Rattle.app_tree.specs.Tree as app
-use Rattle.app_tree.specs.Tree.{Tree, Trees, Act, Acts}
+use Rattle.app_tree.specs.Tree.{Trees, Acts}
 use Rattle.app_tree.specs.View.{tree_of, trees_of_terms, act_of, acts_of_block}
 use Rattle.app_tree.specs.DraftView.{draft_tree_of, draft_trees_of, draft_act_of, draft_acts_of}
 use Rattle.app_check.specs.Resolving.{Resolving, behind_sites, tree_made, trees_made, act_made, acts_made}

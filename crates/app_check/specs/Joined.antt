@@ -1,6 +1,6 @@
 -- One list of terms, or of statements, behind another.
 use Rattle.app_tree.specs.Tree as app
-use Rattle.app_tree.specs.Tree.{Tree, Trees, Act, Acts}
+use Rattle.app_tree.specs.Tree.{Trees, Acts}
 use Rattle.app_check.specs.Resolving.{Resolving}
 
 abbrev pub joined : Trees → Trees → Trees

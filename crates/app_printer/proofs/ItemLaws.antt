@@ -11,7 +11,7 @@ use Rattle.app_tree.specs.declared.item.Flags.{Flags}
 use Rattle.app_tree.specs.declared.draft_term.Name.{Name}
 use Rattle.app_tree.specs.DraftTree.{DraftTree, DraftTrees, no_trees, tree, WrittenDeed, DraftActs, WrittenBody, WrittenOutput, WrittenForm, input, value, task, reactive, event, text, plot, observe, on, WrittenItem}
 use Rattle.app_tree.specs.Fits.{is_number, constant_fits, whole_fits, all_fit, block_fits, body_fits, write_fits, output_fits, form_fits, item_fits, fits}
-use Rattle.app_reader.specs.Spelling.{Wording, ends, next, either, first_way, a_word, a_word_at, a_symbol, a_number, a_name, spell_term, spell_terms, spell_number, spell_numbers, spell_more_numbers, spell_constant, written_priority, spell_priority, written_budget, spell_budget, spell_writes, spell_acts, spell_block, spell_body, spell_flag, spell_flags, spell_keys, spell_names, spell_more_names, spell_bracketed, spell_start, spell_output, spell_form, spell_item, spell_items, spelling}
+use Rattle.app_reader.specs.Spelling.{Wording, ends, either, a_word, a_word_at, a_symbol, a_name, spell_terms, spell_number, spell_numbers, spell_more_numbers, spell_constant, written_priority, spell_priority, spell_block, spell_body, spell_flag, spell_flags, spell_keys, spell_names, spell_more_names, spell_bracketed, spell_start, spell_output, spell_form, spell_item, spell_items}
 use Rattle.app_reader.specs.Spelling as spelt
 use Rattle.app_printer.specs.Canonical.{numbers_text, more_numbers, constant_text, term_text, terms_text, acts_text, braced, writes_text, body_text, if_written, flags_text, priority_text, keys_text, names_text, more_names, start_text, output_text, form_word, form_text, item_text, items_text}
 use Rattle.app_tree.specs.Unplaced.{unplaced_of, unplaced_tree, unplaced_trees, unplaced_written, unplaced_acts, unplaced_body, unplaced_output, unplaced_form, unplaced_item}

@@ -1,9 +1,9 @@
 -- The draft in which an app is written has no places.
 use Rattle.std.proofs.Common.{◌≡◌, ℕ, List, [], ◌∷◌, refl, ap, ap₂, map}
 use Rattle.app_tree.specs.Tree as app
-use Rattle.app_tree.specs.Tree.{Tree, Trees, Act, Acts, Shown, Node, Shape}
+use Rattle.app_tree.specs.Tree.{Tree, Trees, Act, Acts, Shown, Node}
 use Rattle.app_tree.specs.DraftTree as draft
-use Rattle.app_tree.specs.DraftTree.{DraftTree, DraftTrees, DraftActs, WrittenBody, WrittenForm, WrittenItem, DraftShape}
+use Rattle.app_tree.specs.DraftTree.{DraftTree, DraftTrees, DraftActs, WrittenBody, WrittenForm, WrittenItem}
 use Rattle.app_tree.specs.declared.draft_term.Name.{Name}
 use Rattle.app_tree.specs.Declarations.{Declared, source_name, node_declarations}
 use Rattle.app_tree.specs.Resolve.{inner_scope}

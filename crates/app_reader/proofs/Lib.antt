@@ -8,6 +8,8 @@ pub mod PartsSound
 pub mod FilesSound
 pub mod Again
 pub mod ChainsAgain
+pub mod OperatorsAgain
+pub mod Beginnings
 pub mod TermsAgain
 pub mod PartsAgain
 pub mod FilesAgain

@@ -24,7 +24,8 @@ use Rattle.app_reader.specs.Statements.{assigned_at, set_at, update_at, sent_at,
 use Rattle.app_reader.specs.Spelling.{Wanted, of_kind, at_place, Wording, next, either, IsSpelledBy, a_word, a_word_at, a_symbol, a_number, spell_term, spell_terms, spell_number, spell_more_numbers, spell_numbers, spell_constant, written_priority, spell_priority, written_budget, spell_budget, deed_word, spell_assigned, spell_deed, spell_write, spell_writes, spell_act, spell_acts, spell_block, spell_body, spell_bracketed}
 use Rattle.app_reader.proofs.Got.{and_left, and_right}
 use Rattle.app_reader.proofs.Again.{To, Again, then1, then2, then3, then4, by_first, by_other, kind_of, first_is, tail_is, fewer_is, place_is, behind, may_begin, never, symbol_again, word_again, number_again, text_again, name_again, all_of, Stepped, loop_again}
-use Rattle.app_reader.proofs.TermsAgain.{is_term_word, begins_term, begins_no, Readable, bracketed_again, list_of, trees_back, optional_again, term_again, terms_again}
+use Rattle.app_reader.proofs.Beginnings.{is_term_word, begins_term, begins_no}
+use Rattle.app_reader.proofs.TermsAgain.{Readable, bracketed_again, list_of, trees_back, optional_again, term_again, terms_again}
 
 -- ---- numbers
 

@@ -1,11 +1,11 @@
 -- Worked examples of cover: what keys cover, and what a covered body comes to.
-use Rattle.std.specs.Prelude.{ℕ, ◌≡◌, Bool, true, false, pos, [], ◌∷◌, codes}
+use Rattle.std.specs.Prelude.{◌≡◌, true, false, pos, [], ◌∷◌, codes}
 use Rattle.rx_value.specs.declared.operator.BinOp.TheVariants as op
 use Rattle.rx_value.specs.declared.value.Value.TheVariants.{Bool as Truth, Int}
 use Rattle.rx_value.specs.declared.outcome.Outcome.TheVariants.{Val}
 use Rattle.app_tree.specs.declared.term.Operator.TheVariants.{Strict}
 use Rattle.app_tree.specs.declared.term.Read.TheVariants as read
-use Rattle.app_tree.specs.Tree.{Tree, Trees, no_trees, tree, get, constant, group, isolate, binary, choice, Node, input, reactive, text, Shape}
+use Rattle.app_tree.specs.Tree.{Tree, Trees, no_trees, tree, get, constant, group, isolate, binary, choice, input, reactive, text, Shape}
 use Rattle.app_tree.specs.Cover.{is_covered, keyed_outcome}
 
 -- three inputs

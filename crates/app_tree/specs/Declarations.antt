@@ -3,7 +3,7 @@ use Rattle.std.specs.Prelude.{ℕ, suc, ◌+◌, Bool, true, false, ◌&&◌, Li
 use Rattle.app_tree.specs.declared.item.Sort.{Sort}
 use Rattle.app_tree.specs.declared.item.Sort.TheVariants as sort
 use Rattle.app_tree.specs.Tree as app
-use Rattle.app_tree.specs.Tree.{Node, Shape}
+use Rattle.app_tree.specs.Tree.{Node}
 use Rattle.app_tree.specs.Numbering.{name_of}
 use Rattle.app_tree.specs.DraftTree as draft
 use Rattle.app_tree.specs.DraftTree.{WrittenForm, WrittenItem}

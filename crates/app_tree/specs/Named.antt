@@ -9,7 +9,7 @@ use Rattle.app_tree.specs.Tree as app
 use Rattle.app_tree.specs.Tree.{Tree, Trees, Act, Acts, Shown, Node, Shape}
 use Rattle.app_tree.specs.Numbering.{name_of}
 use Rattle.app_tree.specs.DraftTree as draft
-use Rattle.app_tree.specs.DraftTree.{DraftTree, DraftTrees, DraftDeed, WrittenDeed, DraftAct, DraftActs, WrittenBody, WrittenOutput, WrittenForm, WrittenItem, DraftShape}
+use Rattle.app_tree.specs.DraftTree.{DraftTree, DraftTrees, DraftDeed, DraftAct, DraftActs, WrittenBody, WrittenOutput, WrittenForm, WrittenItem, DraftShape}
 use Rattle.app_tree.specs.Declarations.{Declared, node_declarations, source_name, reader_name}
 use Rattle.app_tree.specs.Resolve.{inner_scope}
 

@@ -11,7 +11,7 @@ use Rattle.app_tree.specs.declared.draft_term.ReadForm.TheVariants as form
 use Rattle.app_tree.specs.Tree as app
 use Rattle.app_tree.specs.Tree.{Tree, Trees, Act, Acts, Shown, Node, Shape}
 use Rattle.app_tree.specs.DraftTree as draft
-use Rattle.app_tree.specs.DraftTree.{DraftTree, DraftTrees, DraftDeed, WrittenDeed, DraftAct, DraftActs, WrittenBody, WrittenOutput, WrittenForm, WrittenItem, DraftShape}
+use Rattle.app_tree.specs.DraftTree.{DraftTree, DraftTrees, DraftDeed, DraftAct, DraftActs, WrittenOutput, WrittenForm, WrittenItem, DraftShape}
 use Rattle.app_tree.specs.Declarations.{Declared, is_input_sort, is_value_sort, is_task_sort, is_named_sort, is_output_sort, declarations, declaration, number_at}
 
 abbrev pub text_of_name : Name → List ℕ

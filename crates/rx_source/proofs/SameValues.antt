@@ -4,7 +4,7 @@ use Rattle.rx_value.specs.declared.source.SourceValue.{SourceValue}
 use Rattle.rx_value.specs.Value.{source_eq}
 use Rattle.rx_value.proofs.SameSources.{source_eq-Decides}
 use Rattle.rx_source.specs.declared.sources.Change.{Change}
-use Rattle.rx_source.specs.declared.sources.Change.TheVariants.{Changed, Same}
+use Rattle.rx_source.specs.declared.sources.Change.TheVariants.{Same}
 use Rattle.rx_source.specs.Changing.{change_of}
 
 was_same : (b : Bool) → change_of b ≡ Same → b ≡ true

@@ -17,7 +17,7 @@ use Rattle.session_model.specs.declared.state.ReaderState.{ReaderState}
 use Rattle.session_model.specs.State.{SessionState, reader_state, has_run, is_alive}
 use Rattle.session_model.specs.AskedLaws.{Every}
 use Rattle.session_model.specs.Reading as r
-use Rattle.session_model.specs.Reading.{Reached, Visited, Manner, Reading, go_on, kept_in, read_term, read_terms}
+use Rattle.session_model.specs.Reading.{Reached, Visited, go_on, read_term}
 use Rattle.session_model.specs.Run as run
 use Rattle.session_model.specs.Run.{choose, keeping, passing, counted, read_cached, read_site, read_event_body, read_node}
 use Rattle.session_model.specs.Orderly.{ReadsBelow, IsOrderly, IsNumbered, AreNumbered, IsNumberedNode, reads_in_node}

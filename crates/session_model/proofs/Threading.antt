@@ -20,7 +20,7 @@ use Rattle.app_tree.specs.Fresh.{fresh_outcome}
 use Rattle.session_model.specs.State.{SessionState, isolated_of}
 use Rattle.session_model.specs.AskedLaws.{Every}
 use Rattle.session_model.specs.Reading as r
-use Rattle.session_model.specs.Reading.{Reached, Visited, Manner, Reading, followed, go_on_by, go_on, read_expression, read_in, decided_in, operated_in, chosen_in, over_each_in, over_list_in, kept_in, read_term, read_terms}
+use Rattle.session_model.specs.Reading.{Reached, Visited, Manner, Reading, followed, go_on_by, go_on, read_in, decided_in, operated_in, chosen_in, over_each_in, over_list_in, kept_in, read_term, read_terms}
 use Rattle.session_model.specs.Orderly.{IsNumbered, AreNumbered}
 use Rattle.session_model.specs.Now.{OfRead, EveryRead, given_outcome, then_walked, walked_by, walked}
 use Rattle.session_model.proofs.Agreeing.{front, back}

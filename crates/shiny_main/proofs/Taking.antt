@@ -10,7 +10,7 @@ use Rattle.session_model.specs.declared.event.Event.{Event}
 use Rattle.session_model.specs.declared.event.Event.TheVariants as event
 use Rattle.session_model.specs.declared.event.Event.TheVariants.{Text}
 use Rattle.session_model.specs.Alone.{Ending, spent, ending, course_of}
-use Rattle.session_model.specs.Transcript.{Line, recv, ends, closes, Open, opened, with_event, event_output, text_bytes, is_full, is_over, session_of, with_session, Replayed, Rest, after_output, stepped, step_by, step, taken, received, replay_line}
+use Rattle.session_model.specs.Transcript.{Line, recv, ends, closes, Open, opened, with_event, event_output, text_bytes, is_full, is_over, Rest, after_output, stepped, step_by, taken, received, replay_line}
 use Rattle.session_model.specs.TakenLines.{line_count_limit, is_first, is_of_one, is_taken, taken_pairs, taken_line}
 use Rattle.session_model.proofs.TakenReplay.{taken_init, taken_update, taken_short}
 use Rattle.flush_cycle.specs.declared.stage.Stage.{Stage}

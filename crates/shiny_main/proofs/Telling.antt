@@ -1,22 +1,17 @@
 -- The status and the note tell how the work ended.
-use Rattle.std.proofs.Common.{◌≡◌, ℕ, List, [], Option, refl, sym, ap, ◌∙◌, subst, inl, inr}
-use Rattle.std.specs.Prelude.{◌⊎◌, ⊤, String}
+use Rattle.std.proofs.Common.{ℕ, List, [], Option, refl, sym, inl, inr}
+use Rattle.std.specs.Prelude.{String}
 use Rattle.std.specs.declared.alloc.Global.{Global}
-use Rattle.std.specs.Io.KnownBytes.{append_known}
-use Rattle.rx_ports.specs.Faults.{Rose}
-use Rattle.rx_ports.specs.Sink.{PutsFront}
 use Rattle.rx_ports.specs.declared.files.NamedFile.{NamedFile}
-use Rattle.shiny_main.specs.declared.words.Command.{Command}
 use Rattle.shiny_main.specs.declared.status.Status.{Status}
 use Rattle.shiny_main.specs.declared.status.Status.TheVariants as status
 use Rattle.shiny_main.specs.declared.ended.Ended.{Ended}
 use Rattle.shiny_main.specs.declared.ended.Ended.TheVariants as ended
 use Rattle.shiny_main.specs.Ends as ends
-use Rattle.shiny_main.specs.Ends.{status_of}
 use Rattle.shiny_main.specs.Words.{words_of}
-use Rattle.shiny_main.specs.Notes.{file_of, note_on, note_text, memory_text, IsNoted, IsComposed, Tells, NoteFaults, TellFaults}
+use Rattle.shiny_main.specs.Notes.{file_of, IsNoted, Tells}
 use Rattle.shiny_main.specs.Commands.{Ports}
-use Rattle.shiny_main.specs.Top.{WordsGive, RunGives, FileFaults, InputFaults, OutputFaults}
+use Rattle.shiny_main.specs.Top.{WordsGive, RunGives}
 use Rattle.shiny_main.proofs.Ending.{words_memory, append_nothing}
 
 -- nothing is told where there is nothing to tell

@@ -8,7 +8,7 @@ use Rattle.std.specs.Io.KnownBytes.{append_known, IsAtEnd}
 use Rattle.app_tree.specs.Tree.{Shape}
 use Rattle.session_model.specs.declared.event.Event.TheVariants.{End}
 use Rattle.session_model.specs.Alone.{Course, ended, spent, effect_from, effect_texts, course_after, ending, course_of}
-use Rattle.session_model.specs.Transcript.{Open, with_event, event_output, over_line, added_texts, is_over, step_by, line_of, parts_of, ReplayEnd, done, bad_line, no_session, Replayed, Rest, stopped, after_output, closing_output, all_closed, replay_line, replay_from}
+use Rattle.session_model.specs.Transcript.{Open, with_event, event_output, over_line, added_texts, is_over, step_by, parts_of, ReplayEnd, done, bad_line, no_session, Replayed, Rest, stopped, after_output, closing_output, all_closed, replay_line, replay_from}
 use Rattle.session_model.specs.TakenLines.{taken_line, taken_by}
 use Rattle.session_model.specs.Lines.{line_limit}
 use Rattle.session_model.specs.Output.{send_lines, over_text}

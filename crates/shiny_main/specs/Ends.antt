@@ -1,5 +1,5 @@
 -- How the program's work may end.
-use Rattle.std.specs.Prelude.{ℕ, List, ⊤}
+use Rattle.std.specs.Prelude.{ℕ, ⊤}
 use Rattle.rx_ports.specs.Faults.{Rose}
 use Rattle.shiny_main.specs.declared.status.Status.{Status}
 use Rattle.shiny_main.specs.declared.status.Status.TheVariants as status

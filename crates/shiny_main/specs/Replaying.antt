@@ -12,7 +12,7 @@ use Rattle.shiny_json.specs.declared.message.Client.TheVariants.{Init, Update}
 use Rattle.shiny_json.specs.Client.{message_limit, client_message}
 use Rattle.session_model.specs.declared.event.Event.TheVariants.{Text}
 use Rattle.session_model.specs.Alone.{Ending, spent, course_of}
-use Rattle.session_model.specs.Transcript.{Open, opened, with_event, event_output, text_bytes, Line, ReplayEnd, done, bad_line, no_session, Replayed, Rest, stopped, after_output, replay_line, replay_from}
+use Rattle.session_model.specs.Transcript.{Open, opened, with_event, event_output, text_bytes, Line, ReplayEnd, done, bad_line, no_session, Rest, stopped, after_output, replay_line, replay_from}
 use Rattle.session_model.specs.TakenLines.{line_count_limit, taken_by}
 use Rattle.session_model.specs.Output.{send_lines, over_text}
 use Rattle.flush_cycle.specs.declared.stage.Stage.{Stage}

@@ -1,5 +1,5 @@
 -- What the top call promises.
-use Rattle.std.specs.Prelude.{◌≡◌, ℕ, List, String, Option, Some, None, IfSome, Result, Ok, ⊤, ◌⊎◌}
+use Rattle.std.specs.Prelude.{◌≡◌, ℕ, List, String, Option, Some, None, IfSome, Ok, ⊤, ◌⊎◌}
 use Rattle.std.specs.declared.alloc.Global.{Global}
 use Rattle.rx_ports.specs.Faults.{Rose}
 use Rattle.rx_ports.specs.Files.{content_of}

@@ -1,4 +1,4 @@
-use Rattle.std.proofs.Common.{◌≡◌, List, sym, subst}
+use Rattle.std.proofs.Common.{List, sym, subst}
 use Rattle.app_tree.specs.Tree.{Node}
 use Rattle.app_tree.specs.WellFormed.{IsWellFormed}
 use Rattle.rx_source.proofs.Samples.{sample_is}

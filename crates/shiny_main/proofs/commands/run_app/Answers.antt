@@ -1,6 +1,5 @@
 use Rattle.std.proofs.Common.{refl}
 use Rattle.app_check.specs.Load.{loaded}
-use Rattle.shiny_main.specs.Commands.{Ports}
 use Rattle.shiny_main.proofs.Ending.{untouched_app}
 use Rattle.shiny_main.proofs.commands.run_app.Goals as goal
 
