@@ -8,6 +8,5 @@ pub mod Accepted
 pub mod Firsts
 pub mod Keyed
 pub mod Placed
-pub mod CutNames
 pub mod ReadNames
 pub mod LoadedNames

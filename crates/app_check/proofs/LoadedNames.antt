@@ -1,4 +1,4 @@
--- Each name of an app that a file stands for is a word that isn't reserved.
+-- Each item name of an app that a file stands for is a word that isn't reserved.
 use Rattle.std.proofs.Common.{◌≡◌, ℕ, true, List, Result, Ok, Err, Option, Some, None, refl, sym, ◌∙◌, ap}
 use Rattle.std.specs.Prelude.{IfOk}
 use Rattle.app_tokens.specs.Tokens.{Tokens}
@@ -21,7 +21,6 @@ use Rattle.app_check.specs.declared.error.LoadError.{LoadError}
 use Rattle.app_check.specs.Load.{or_refusal, checked_app, app_of_draft}
 use Rattle.app_check.specs.Words.{has_words}
 use Rattle.app_check.proofs.Accepted.{none_found}
-use Rattle.app_check.proofs.CutNames.{cut_names}
 use Rattle.app_check.proofs.ReadNames.{read_names}
 
 -- a draft that no check refuses is, but for its places, the draft in which its app is written
@@ -41,7 +40,7 @@ draft_has_words bytes s d app cut is_read e = by (checked d) refl e
     by (Ok made) is e =
         let same : made ≡ app = cc in
         ap has_words (named_checked d app (is ∙ ap Ok same))
-        ∙ read_names d s.tokens (cut_names bytes s cut) (read_is_spelled s d (cut_tokens_fit bytes s cut) is_read).1
+        ∙ (let fit = cut_tokens_fit bytes s cut in read_names d s.tokens fit (read_is_spelled s d fit is_read).1)
     by (Err r) is e = absurd cc
 
 read_has_words : (bytes : List ℕ) (s : Tokens) (app : Shape) → tokens_of bytes ≡ Ok s → app_of_draft (read_at s) ≡ Ok app → has_words (named app) ≡ true

@@ -1,4 +1,4 @@
--- Each name of a draft that is read is a word that isn't reserved, where those of the tokens are.
+-- Each item name of a draft that is read is a word that isn't reserved, where the names among the tokens are.
 use Rattle.std.proofs.Common.{◌≡◌, ℕ, zero, suc, ℤ, pos, negsuc, Bool, true, false, ◌&&◌, ◌⊎◌, inl, inr, List, [], ◌∷◌, map, refl, sym, ◌∙◌, ap}
 use Rattle.std.specs.Prelude.{nat_eq, if◌then◌else◌}
 use Rattle.std.specs.List.{list_all}
@@ -12,15 +12,17 @@ use Rattle.app_tree.specs.declared.draft_term.Name.{Name}
 use Rattle.app_tree.specs.declared.draft_term.ReadForm.{ReadForm}
 use Rattle.app_tree.specs.declared.draft_term.ReadForm.TheVariants as form
 use Rattle.app_tree.specs.DraftTree.{DraftTree, constant, group, read, variable, isolate, stop, require, fold, unary, binary, choice, call, DraftTrees, no_trees, tree, DraftDeed, set, invoke, update, freeze, WrittenDeed, DraftAct, write, perform, branch, branch_else, DraftActs, no_acts, act, WrittenBody, WrittenOutput, WrittenForm, input, value, task, reactive, event, text, plot, observe, on, WrittenItem, DraftShape}
-use Rattle.app_tree.specs.Unplaced.{unplaced_of, unplaced_tree, unplaced_trees, unplaced_deed, unplaced_written, unplaced_act, unplaced_acts, unplaced_body, unplaced_output, unplaced_form, unplaced_item, unplaced}
+use Rattle.app_tree.specs.Fits.{name_fits}
+use Rattle.rx_value.specs.Names.{is_name}
+use Rattle.app_tree.specs.Unplaced.{unplaced_tree, unplaced_trees, unplaced_deed, unplaced_written, unplaced_act, unplaced_acts, unplaced_body, unplaced_output, unplaced_form, unplaced_item, unplaced}
 use Rattle.app_reader.specs.Spelling.{Wanted, called, IsNamed, Wording, next, either, ends, IsSpelledBy, a_symbol, a_name, spell_named, spell_read, spell_cancels, spell_term, spell_terms, spell_more, spell_number, spell_more_numbers, spell_numbers, spell_constant, spell_priority, written_budget, spell_budget, spell_deed, spell_write, spell_writes, spell_condition, spell_act, spell_acts, spell_block, spell_body, spell_flag, spell_flags, spell_keys, spell_more_names, spell_names, spell_bracketed, spell_output, spell_form, spell_items, spelling}
-use Rattle.app_check.specs.Words.{is_name, name_is_word, term_has_words, terms_have_words, deed_has_words, act_has_words, acts_have_words, body_has_words, output_has_words, form_has_words, item_has_words, has_words}
-use Rattle.app_check.proofs.CutNames.{token_has_word, kind_has_word, HaveWords}
+use Rattle.app_reader.specs.Laws.{kind_fits, token_fits, tokens_fit}
+use Rattle.app_check.specs.Words.{term_has_words, terms_have_words, deed_has_words, act_has_words, acts_have_words, body_has_words, output_has_words, form_has_words, item_has_words, has_words}
 
 -- tokens are these, and each name among them is a word that isn't reserved
 record Met (w : Wording) : Type 0 where
   tokens : List Token
-  words : HaveWords tokens
+  words : tokens_fit tokens ≡ true
   spelled : IsSpelledBy w tokens
 
 -- ---- single tokens
@@ -32,26 +34,26 @@ parts false b e = absurd cc
 behind : {w : Wanted} {rest : Wording} → Met (next w rest) → Met rest
 behind {w} {rest} m = by m.tokens m.words m.spelled
   where
-    by : (ts : List Token) → HaveWords ts → IsSpelledBy (next w rest) ts → Met rest
+    by : (ts : List Token) → tokens_fit ts ≡ true → IsSpelledBy (next w rest) ts → Met rest
     by [] words spelled = absurd spelled
-    by (t ∷ ts) words spelled = record { tokens = ts; words = (parts (token_has_word t) (list_all token_has_word ts) words).1; spelled = spelled.1 }
+    by (t ∷ ts) words spelled = record { tokens = ts; words = (parts (token_fits t) (tokens_fit ts) words).1; spelled = spelled.1 }
 
-word_of_name : (n : Name) (t : Token) → IsNamed n t → token_has_word t ≡ true → name_is_word n ≡ true
-word_of_name n t is has = ap is_name (sym is.is_spelled) ∙ ap (λ k. kind_has_word k t.spelling) (sym is.is_name) ∙ has
+word_of_name : (n : Name) (t : Token) → IsNamed n t → token_fits t ≡ true → name_fits n ≡ true
+word_of_name n t is has = ap is_name (sym is.is_spelled) ∙ ap (λ k. kind_fits k t.spelling) (sym is.is_name) ∙ has
 
-name_met : (n : Name) (rest : Wording) → Met (a_name n rest) → (name_is_word n ≡ true) × Met rest
+name_met : (n : Name) (rest : Wording) → Met (a_name n rest) → (name_fits n ≡ true) × Met rest
 name_met n rest m = (by m.tokens m.words m.spelled, behind m)
   where
-    by : (ts : List Token) → HaveWords ts → IsSpelledBy (a_name n rest) ts → name_is_word n ≡ true
+    by : (ts : List Token) → tokens_fit ts ≡ true → IsSpelledBy (a_name n rest) ts → name_fits n ≡ true
     by [] words spelled = absurd spelled
-    by (t ∷ ts) words spelled = word_of_name n t spelled.0 (parts (token_has_word t) (list_all token_has_word ts) words).0
+    by (t ∷ ts) words spelled = word_of_name n t spelled.0 (parts (token_fits t) (tokens_fit ts) words).0
 
-called_met : (place : ℕ) (n : Name) (rest : Wording) → Met (next (called place n) rest) → (name_is_word n ≡ true) × Met rest
+called_met : (place : ℕ) (n : Name) (rest : Wording) → Met (next (called place n) rest) → (name_fits n ≡ true) × Met rest
 called_met place n rest m = (by m.tokens m.words m.spelled, behind m)
   where
-    by : (ts : List Token) → HaveWords ts → IsSpelledBy (next (called place n) rest) ts → name_is_word n ≡ true
+    by : (ts : List Token) → tokens_fit ts ≡ true → IsSpelledBy (next (called place n) rest) ts → name_fits n ≡ true
     by [] words spelled = absurd spelled
-    by (t ∷ ts) words spelled = word_of_name n t spelled.0.0 (parts (token_has_word t) (list_all token_has_word ts) words).0
+    by (t ∷ ts) words spelled = word_of_name n t spelled.0.0 (parts (token_fits t) (tokens_fit ts) words).0
 
 either_met : {one other : Wording} (rest : Wording) → (Met one → Met rest) → (Met other → Met rest) → Met (either one other) → Met rest
 either_met {one} {other} rest left right m = by m.spelled
@@ -62,10 +64,10 @@ either_met {one} {other} rest left right m = by m.spelled
 
 -- ---- terms
 
-named_met : (w : Word) (place : ℕ) (n : Name) (rest : Wording) → Met (spell_named w place n rest) → (name_is_word n ≡ true) × Met rest
+named_met : (w : Word) (place : ℕ) (n : Name) (rest : Wording) → Met (spell_named w place n rest) → (name_fits n ≡ true) × Met rest
 named_met w place n rest m = let a = name_met n (a_symbol symbol.Close rest) (behind (behind m)) in (a.0, behind a.1)
 
-read_met : (form : ReadForm) (place : ℕ) (n : Name) (rest : Wording) → Met (spell_read form place n rest) → (name_is_word n ≡ true) × Met rest
+read_met : (form : ReadForm) (place : ℕ) (n : Name) (rest : Wording) → Met (spell_read form place n rest) → (name_fits n ≡ true) × Met rest
 read_met form.Input place n rest m = name_met n rest (behind (behind m))
 read_met form.Named place n rest m =
     let a = called_met place n (a_symbol symbol.Open (a_symbol symbol.Close rest)) m in (a.0, behind (behind a.1))
@@ -83,7 +85,7 @@ mutual
   term_met (constant k) rest m = (refl, behind m)
   term_met (group t) rest m = let a = term_met t (a_symbol symbol.Close rest) (behind m) in (a.0, behind a.1)
   term_met (read form place n) rest m = read_met form place n rest m
-  term_met (variable n) rest m = name_met n rest m
+  term_met (variable n) rest m = (refl, behind m)
   term_met (isolate place t) rest m = let a = term_met t (a_symbol symbol.Close rest) (behind (behind m)) in (a.0, behind a.1)
   term_met (stop t) rest m = let a = term_met t (a_symbol symbol.Close rest) (behind (behind m)) in (a.0, behind a.1)
   term_met (require t cancels) rest m =
@@ -96,10 +98,8 @@ mutual
       let names = a_name accumulator (a_symbol symbol.Comma inner) in
       let a = term_met list (a_symbol symbol.Comma (spell_term start (a_symbol symbol.Comma names))) (behind (behind m)) in
       let b = term_met start (a_symbol symbol.Comma names) (behind a.1) in
-      let c = name_met accumulator (a_symbol symbol.Comma inner) (behind b.1) in
-      let d = name_met element (a_symbol symbol.Comma last) (behind c.1) in
-      let e = term_met body end (behind d.1) in
-      (rw (a.0, b.0, c.0, d.0, e.0) refl, behind e.1)
+      let c = term_met body end (behind (behind (behind (behind (behind b.1))))) in
+      (rw (a.0, b.0, c.0) refl, behind c.1)
   term_met (unary op t) rest m = term_met t rest (behind m)
   term_met (binary op left right) rest m =
       let a = term_met left (next _ (spell_term right rest)) m in
@@ -171,7 +171,7 @@ budget_met n rest m = by (nat_eq n 1000) m
 -- ---- writes and statements
 
 assigned_met : (n : Name) (t : DraftTree) (rest : Wording) → Met (a_name n (a_symbol symbol.Assign (spell_term t (a_symbol symbol.Semicolon rest))))
-    → ((name_is_word n && term_has_words (unplaced_tree t)) ≡ true) × Met rest
+    → ((name_fits n && term_has_words (unplaced_tree t)) ≡ true) × Met rest
 assigned_met n t rest m =
     let end = a_symbol symbol.Semicolon rest in
     let a = name_met n (a_symbol symbol.Assign (spell_term t end)) m in
@@ -248,19 +248,13 @@ keys_met : (ts : DraftTrees) (rest : Wording) → Met (spell_keys ts rest) → (
 keys_met no_trees rest m = (refl, m)
 keys_met (tree t ts) rest m = let a = terms_met (tree t ts) (a_symbol symbol.Close rest) (behind (behind m)) in (a.0, behind a.1)
 
-more_names_met : (ns : List Name) (rest : Wording) → Met (spell_more_names ns rest) → (list_all name_is_word (map unplaced_of ns) ≡ true) × Met rest
-more_names_met [] rest m = (refl, m)
-more_names_met (n ∷ ns) rest m =
-    let a = name_met n (spell_more_names ns rest) (behind m) in
-    let b = more_names_met ns rest a.1 in
-    (rw (a.0, b.0) refl, b.1)
+more_names_met : (ns : List Name) (rest : Wording) → Met (spell_more_names ns rest) → Met rest
+more_names_met [] rest m = m
+more_names_met (n ∷ ns) rest m = more_names_met ns rest (behind (behind m))
 
-names_met : (ns : List Name) (rest : Wording) → Met (spell_names ns rest) → (list_all name_is_word (map unplaced_of ns) ≡ true) × Met rest
-names_met [] rest m = (refl, m)
-names_met (n ∷ ns) rest m =
-    let a = name_met n (spell_more_names ns rest) m in
-    let b = more_names_met ns rest a.1 in
-    (rw (a.0, b.0) refl, b.1)
+names_met : (ns : List Name) (rest : Wording) → Met (spell_names ns rest) → Met rest
+names_met [] rest m = m
+names_met (n ∷ ns) rest m = more_names_met ns rest (behind m)
 
 bracketed_met : (t : DraftTree) (rest : Wording) → Met (spell_bracketed t rest) → (term_has_words (unplaced_tree t) ≡ true) × Met rest
 bracketed_met t rest m = let a = term_met t (a_symbol symbol.Close rest) (behind m) in (a.0, behind a.1)
@@ -278,9 +272,8 @@ form_met (value start) rest m = (refl, start_met start rest m)
 form_met (task parameters body) rest m =
     let end = a_symbol symbol.CloseBrace rest in
     let inside = a_symbol symbol.Close (a_symbol symbol.OpenBrace (spell_term body end)) in
-    let a = names_met parameters inside (behind m) in
-    let b = term_met body end (behind (behind a.1)) in
-    (rw (a.0, b.0) refl, behind b.1)
+    let a = term_met body end (behind (behind (names_met parameters inside (behind m)))) in
+    (a.0, behind a.1)
 form_met (reactive keys body) rest m =
     let a = keys_met keys (spell_body body rest) m in
     let b = body_met body rest a.1 in
@@ -306,7 +299,7 @@ items_met (i ∷ items) rest m =
     let c = items_met items rest b.1 in
     (rw (a.0, b.0, c.0) refl, c.1)
 
-pub read_names : (d : DraftShape) (tokens : List Token) → HaveWords tokens → IsSpelledBy (spelling d) tokens → has_words (unplaced d) ≡ true
+pub read_names : (d : DraftShape) (tokens : List Token) → tokens_fit tokens ≡ true → IsSpelledBy (spelling d) tokens → has_words (unplaced d) ≡ true
 read_names d tokens words spelled =
     let whole : Met (spelling d) = record { tokens = tokens; words = words; spelled = spelled } in
     (items_met d.items ends (budget_met d.budget (spell_items d.items ends) whole)).0

@@ -1,35 +1,21 @@
--- Drafts whose names can be read back: each is a word of the language that isn't reserved.
-use Rattle.std.specs.Prelude.{ℕ, Bool, true, false, ◌&&◌, List, [], ◌∷◌, Option, Some, None}
+-- Drafts whose item names can be read back: each is a word of the language that isn't reserved, where the item is declared
+-- and where it is used. That parameters and variables are named by such words is said of each draft that fits.
+use Rattle.std.specs.Prelude.{Bool, true, ◌&&◌}
 use Rattle.std.specs.List.{list_all}
-use Rattle.app_tokens.specs.declared.word.Word.{Word}
-use Rattle.app_tokens.specs.Word.{word_of}
-use Rattle.app_tokens.specs.Scan.{is_letter, is_of_word}
-use Rattle.app_tree.specs.declared.draft_term.Name.{Name}
 use Rattle.app_tree.specs.DraftTree.{DraftTree, constant, group, read, variable, isolate, stop, require, fold, unary, binary, choice, call, DraftTrees, no_trees, tree, DraftDeed, set, invoke, update, freeze, DraftAct, write, perform, branch, branch_else, DraftActs, no_acts, act, WrittenBody, WrittenOutput, WrittenForm, input, value, task, reactive, event, text, plot, observe, on, WrittenItem, DraftShape}
-
-abbrev pub is_free : Option Word → Bool
-is_free None = true
-is_free (Some w) = false
-
--- a letter, then letters, digits and `_`; and no reserved word
-abbrev pub is_name : List ℕ → Bool
-is_name [] = false
-is_name (b ∷ bs) = is_letter b && list_all is_of_word bs && is_free (word_of (b ∷ bs))
-
-abbrev pub name_is_word : Name → Bool
-name_is_word n = is_name n.text
+use Rattle.app_tree.specs.Fits.{name_fits}
 
 abbrev mutual
   pub term_has_words : DraftTree → Bool
   term_has_words (constant k) = true
   term_has_words (group t) = term_has_words t
-  term_has_words (read form place name) = name_is_word name
-  term_has_words (variable name) = name_is_word name
+  term_has_words (read form place name) = name_fits name
+  term_has_words (variable name) = true
   term_has_words (isolate place t) = term_has_words t
   term_has_words (stop t) = term_has_words t
   term_has_words (require t cancels) = term_has_words t
   term_has_words (fold place list start accumulator element body) =
-      term_has_words list && term_has_words start && name_is_word accumulator && name_is_word element && term_has_words body
+      term_has_words list && term_has_words start && term_has_words body
   term_has_words (unary op t) = term_has_words t
   term_has_words (binary op left right) = term_has_words left && term_has_words right
   term_has_words (choice condition chosen otherwise) =
@@ -41,10 +27,10 @@ abbrev mutual
   terms_have_words (tree t ts) = term_has_words t && terms_have_words ts
 
 abbrev pub deed_has_words : DraftDeed → Bool
-deed_has_words (set name t) = name_is_word name && term_has_words t
-deed_has_words (invoke name ts) = name_is_word name && terms_have_words ts
-deed_has_words (update name t) = name_is_word name && term_has_words t
-deed_has_words (freeze name) = name_is_word name
+deed_has_words (set name t) = name_fits name && term_has_words t
+deed_has_words (invoke name ts) = name_fits name && terms_have_words ts
+deed_has_words (update name t) = name_fits name && term_has_words t
+deed_has_words (freeze name) = name_fits name
 
 abbrev mutual
   pub act_has_words : DraftAct → Bool
@@ -66,7 +52,7 @@ output_has_words output = terms_have_words output.keys && body_has_words output.
 abbrev pub form_has_words : WrittenForm → Bool
 form_has_words (input start) = true
 form_has_words (value start) = true
-form_has_words (task parameters body) = list_all name_is_word parameters && term_has_words body
+form_has_words (task parameters body) = term_has_words body
 form_has_words (reactive keys body) = terms_have_words keys && body_has_words body
 form_has_words (event flags e body) = term_has_words e && body_has_words body
 form_has_words (text output) = output_has_words output
@@ -75,8 +61,8 @@ form_has_words (observe priority block) = acts_have_words block
 form_has_words (on priority flags e block) = term_has_words e && acts_have_words block
 
 abbrev pub item_has_words : WrittenItem → Bool
-item_has_words item = name_is_word item.name && form_has_words item.form
+item_has_words item = name_fits item.name && form_has_words item.form
 
--- each name of the draft is a word that isn't reserved
+-- each name of an item in the draft is a word that isn't reserved
 abbrev pub has_words : DraftShape → Bool
 has_words draft = list_all item_has_words draft.items

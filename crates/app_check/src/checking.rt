@@ -71,7 +71,7 @@ fn app_of_tokens(alloc: Global, list: &TokenList<'_>) -> Result<App, LoadError>
 
 /// The app of a file. A file of more than 262,144 bytes is refused as too long; else it is refused for the
 /// first byte that no token can have, then for the first token that the grammar doesn't allow, and then for
-/// the first check that fails. Each name in the app is a word that isn't reserved.
+/// the first check that fails. Each item of the app is named by a word that isn't reserved.
 pub fn load(alloc: Global, bytes: &[u8]) -> Result<App, LoadError>
     ensures accepted { IfOk result (λ app. loaded bytes.now ≡ Ok (shape_of app)) }
     ensures words { IfOk result (λ app. has_words (named (shape_of app)) ≡ true) }

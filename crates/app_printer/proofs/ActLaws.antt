@@ -1,6 +1,7 @@
 -- The tokens of the canonical text of statements.
 use Rattle.std.proofs.Common.{◌≡◌, ℕ, zero, suc, List, [], ◌∷◌, ◌++◌, codes, refl, ap, ap₂, true, ◌&&◌, append_assoc, map}
 use Rattle.std.specs.List.{list_all}
+use Rattle.rx_value.specs.Names.{is_name}
 use Rattle.app_tokens.specs.declared.word.Word.TheVariants as word
 use Rattle.app_tokens.specs.declared.symbol.Symbol.TheVariants as symbol
 use Rattle.app_tree.specs.declared.draft_term.Name.{Name}
@@ -9,7 +10,7 @@ use Rattle.app_tree.specs.Fits.{deeper, whole_fits, deed_fits, write_fits, act_f
 use Rattle.app_reader.specs.Spelling.{Wording, a_symbol, spell_assigned, spell_write, spell_writes, spell_condition, spell_act, spell_acts}
 use Rattle.app_printer.specs.Canonical.{term_text, terms_text, deed_text, braced, act_text, acts_text, writes_text}
 use Rattle.app_tree.specs.Unplaced.{unplaced_of, unplaced_tree, unplaced_written, unplaced_act, unplaced_acts}
-use Rattle.app_check.specs.Words.{is_name, term_has_words, terms_have_words, deed_has_words, act_has_words, acts_have_words}
+use Rattle.app_check.specs.Words.{term_has_words, terms_have_words, deed_has_words, act_has_words, acts_have_words}
 use Rattle.app_printer.proofs.Reserved.{word_text}
 use Rattle.app_printer.proofs.TokenLaws.{Stands, place_of, name_there, Stands-blank, Stands-word, Stands-word_at, Stands-name, Stands-open, Stands-close, Stands-open_brace, Stands-close_brace, Stands-semicolon, Stands-assign}
 use Rattle.app_printer.proofs.TermLaws.{both, Spelled, regrouped, enclosed, below, term_spelled, terms_spelled}

@@ -1,8 +1,7 @@
 -- A printed app reads back.
 use Rattle.rx_value.specs.declared.memory.Memory.{Memory}
-use Rattle.std.specs.Prelude.{IfOk, OnOk}
-use Rattle.std.proofs.Common.{◌≡◌, ℕ, true, List, [], Result, Ok, Err, None, sym, ap, ◌∙◌, subst}
-use Rattle.std.specs.Str.{IsUtf8}
+use Rattle.std.specs.Prelude.{OnOk}
+use Rattle.std.proofs.Common.{◌≡◌, ℕ, true, List, [], Result, Ok, Err, None, sym, ap, ◌∙◌}
 use Rattle.app_tree.specs.Tree.{Shape}
 use Rattle.app_tree.specs.DraftTree.{DraftShape}
 use Rattle.app_tree.specs.Fits.{fits}
@@ -14,7 +13,6 @@ use Rattle.app_tree.specs.WellFormed.{IsWellFormed}
 use Rattle.app_tree.proofs.Fitting.{fits_unplaced}
 use Rattle.app_tree.proofs.Naming.{named_resolved}
 use Rattle.app_tree.proofs.Places.{passes_alike, resolved_alike}
-use Rattle.app_printer.specs.Canonical.{canonical_text}
 use Rattle.app_check.specs.Words.{has_words}
 use Rattle.app_printer.specs.Laws.{ReadsBack}
 use Rattle.app_printer.proofs.DraftLaws.{text_is_read}
@@ -24,11 +22,11 @@ checked_alike : (d e : DraftShape) → unplaced d ≡ unplaced e → faults d �
 checked_alike d e same none =
     ap (λ rs. accepted_or (first_with None rs) (resolved e)) (passes_alike d e same none) ∙ ap Ok (sym (resolved_alike d e same))
 
-pub reads_back : (app : Shape) → IsWellFormed app → has_words (named app) ≡ true → IsUtf8 (canonical_text app) → ReadsBack app
-reads_back app good words utf8 =
+pub reads_back : (app : Shape) → IsWellFormed app → has_words (named app) ≡ true → ReadsBack app
+reads_back app good words =
     let as_written : named app ≡ unplaced good.draft = ap named (sym good.stands) ∙ named_resolved good.draft good.passes in
     let fit : fits (named app) ≡ true = ap fits as_written ∙ fits_unplaced good.draft ∙ good.fits in
-    let back = text_is_read (named app) fit words utf8 in
+    let back = text_is_read (named app) fit words in
     let same : unplaced good.draft ≡ unplaced back.1 = sym (back.2.same ∙ named_is_unplaced app ∙ as_written) in
     record {
       tokens = back.0;
@@ -39,6 +37,6 @@ reads_back app good words utf8 =
     }
 
 -- what was printed reads back
-pub printed_back : (app : Shape) (r : Result (List ℕ) Memory) → IsWellFormed app → IfOk r (λ t. t ≡ canonical_text app) → IfOk r (λ t. IsUtf8 t) → OnOk r (has_words (named app) ≡ true → ReadsBack app)
-printed_back app (Ok t) good is utf8 = λ words. reads_back app good words (let P : List ℕ → Type 0 = λ l. IsUtf8 l in subst P is utf8)
-printed_back app (Err m) good is utf8 = tt
+pub printed_back : (app : Shape) (r : Result (List ℕ) Memory) → IsWellFormed app → OnOk r (has_words (named app) ≡ true → ReadsBack app)
+printed_back app (Ok t) good = λ words. reads_back app good words
+printed_back app (Err m) good = tt

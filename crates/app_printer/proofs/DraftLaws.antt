@@ -57,13 +57,13 @@ cut_whole : (text : List ℕ) (tokens : List Token) → IsUtf8 text → tokens_f
 cut_whole text tokens utf8 cut = whole_accepted text text (Ok (record { tokens = tokens; end = length text })) refl utf8 cut refl
 
 pub tokens_are_spelling : TokensAreSpelling
-tokens_are_spelling draft fit words utf8 =
+tokens_are_spelling draft fit words =
     let r = draft_spelled (length (draft_text draft)) draft fit words in
     let found = r.2.at 0 (omega arith) in
-    (r.0, found.tokens, record { same = r.1; cut = cut_whole (draft_text draft) found.tokens utf8 found.cut; wanted = found.wanted })
+    (r.0, found.tokens, record { same = r.1; cut = cut_whole (draft_text draft) found.tokens r.2.utf8 found.cut; wanted = found.wanted })
 
 pub text_is_read : TextIsRead
-text_is_read draft fit words utf8 =
-    let r = tokens_are_spelling draft fit words utf8 in
+text_is_read draft fit words =
+    let r = tokens_are_spelling draft fit words in
     let tokens : Tokens = record { tokens = r.1; end = length (draft_text draft) } in
     (tokens, r.0, record { cut = r.2.cut; is_read = canonical_is_read tokens r.0 (fits_alike r.0 draft r.2.same ∙ fit) r.2.wanted; same = r.2.same })

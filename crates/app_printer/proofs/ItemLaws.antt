@@ -10,12 +10,12 @@ use Rattle.app_tokens.specs.declared.symbol.Symbol.TheVariants as symbol
 use Rattle.app_tree.specs.declared.item.Flags.{Flags}
 use Rattle.app_tree.specs.declared.draft_term.Name.{Name}
 use Rattle.app_tree.specs.DraftTree.{DraftTree, DraftTrees, no_trees, tree, WrittenDeed, DraftActs, WrittenBody, WrittenOutput, WrittenForm, input, value, task, reactive, event, text, plot, observe, on, WrittenItem}
-use Rattle.app_tree.specs.Fits.{is_number, constant_fits, whole_fits, all_fit, block_fits, body_fits, write_fits, output_fits, form_fits, item_fits, fits}
+use Rattle.app_tree.specs.Fits.{name_fits, is_number, constant_fits, whole_fits, all_fit, block_fits, body_fits, write_fits, output_fits, form_fits, item_fits, fits}
 use Rattle.app_reader.specs.Spelling.{Wording, ends, either, a_word, a_word_at, a_symbol, a_name, spell_terms, spell_number, spell_numbers, spell_more_numbers, spell_constant, written_priority, spell_priority, spell_block, spell_body, spell_flag, spell_flags, spell_keys, spell_names, spell_more_names, spell_bracketed, spell_start, spell_output, spell_form, spell_item, spell_items}
 use Rattle.app_reader.specs.Spelling as spelt
 use Rattle.app_printer.specs.Canonical.{numbers_text, more_numbers, constant_text, term_text, terms_text, acts_text, braced, writes_text, body_text, if_written, flags_text, priority_text, keys_text, names_text, more_names, start_text, output_text, form_word, form_text, item_text, items_text}
 use Rattle.app_tree.specs.Unplaced.{unplaced_of, unplaced_tree, unplaced_trees, unplaced_written, unplaced_acts, unplaced_body, unplaced_output, unplaced_form, unplaced_item}
-use Rattle.app_check.specs.Words.{is_name, name_is_word, term_has_words, terms_have_words, deed_has_words, acts_have_words, body_has_words, output_has_words, form_has_words, item_has_words}
+use Rattle.app_check.specs.Words.{term_has_words, terms_have_words, deed_has_words, acts_have_words, body_has_words, output_has_words, form_has_words, item_has_words}
 use Rattle.app_printer.proofs.Reserved.{word_text}
 use Rattle.app_printer.proofs.TokenLaws.{Stands, Stands-end, place_of, name_there, Stands-blank, Stands-word, Stands-word_at, Stands-name, Stands-open, Stands-close, Stands-open_brace, Stands-close_brace, Stands-semicolon, Stands-minus, Stands-assign}
 use Rattle.app_printer.proofs.Literals.{Stands-number, Stands-text}
@@ -27,6 +27,7 @@ use Rattle.app_printer.proofs.ActLaws.{writes_spelled, acts_spelled, block_stand
 -- the first way of a choice
 pub first_stands : (total : ℕ) (rest : List ℕ) (one other : Wording) → Stands total rest one → Stands total rest (either one other)
 first_stands total rest one other stands = record {
+  utf8 = stands.utf8;
   at = λ place is. let found = stands.at place is in record { tokens = found.tokens; cut = found.cut; wanted = found.wanted };
 }
 
@@ -217,11 +218,11 @@ more_names_halts (n ∷ ns) rest halts = refl
 names_same : (n m : Name) (ns ms : List Name) → unplaced_of n ≡ unplaced_of m → map unplaced_of ns ≡ map unplaced_of ms → map unplaced_of (n ∷ ns) ≡ map unplaced_of (m ∷ ms)
 names_same n m ns ms e f = ap₂ (λ (x : Name) (xs : List Name). x ∷ xs) e f
 
-more_names_spelled : (total : ℕ) (ns : List Name) (rest : List ℕ) (w : Wording) → list_all name_is_word ns ≡ true → Stops rest → Stands total rest w
+more_names_spelled : (total : ℕ) (ns : List Name) (rest : List ℕ) (w : Wording) → list_all name_fits ns ≡ true → Stops rest → Stands total rest w
     → Spelled (map unplaced_of) spell_more_names total (more_names ns ++ rest) ns w
-more_names_spelled total [] rest w words halts behind = record { placed = []; same = refl; stands = behind }
-more_names_spelled total (n ∷ ns) rest w words halts behind =
-    let h = both (is_name n.text) (list_all name_is_word ns) words in
+more_names_spelled total [] rest w fits halts behind = record { placed = []; same = refl; stands = behind }
+more_names_spelled total (n ∷ ns) rest w fits halts behind =
+    let h = both (name_fits n) (list_all name_fits ns) fits in
     let more = more_names_spelled total ns rest w h.1 halts behind in
     let after = more_names ns ++ rest in
     record {
@@ -231,11 +232,11 @@ more_names_spelled total (n ∷ ns) rest w words halts behind =
           (Stands-separator total (n.text ++ after) _ (Stands-name total n.text after _ h.0 (more_names_halts ns rest halts) more.stands));
     }
 
-names_spelled : (total : ℕ) (ns : List Name) (rest : List ℕ) (w : Wording) → list_all name_is_word ns ≡ true → Stops rest → Stands total rest w
+names_spelled : (total : ℕ) (ns : List Name) (rest : List ℕ) (w : Wording) → list_all name_fits ns ≡ true → Stops rest → Stands total rest w
     → Spelled (map unplaced_of) spell_names total (names_text ns ++ rest) ns w
-names_spelled total [] rest w words halts behind = record { placed = []; same = refl; stands = behind }
-names_spelled total (n ∷ ns) rest w words halts behind =
-    let h = both (is_name n.text) (list_all name_is_word ns) words in
+names_spelled total [] rest w fits halts behind = record { placed = []; same = refl; stands = behind }
+names_spelled total (n ∷ ns) rest w fits halts behind =
+    let h = both (name_fits n) (list_all name_fits ns) fits in
     let more = more_names_spelled total ns rest w h.1 halts behind in
     let after = more_names ns ++ rest in
     record {
@@ -308,13 +309,13 @@ form_spelled : (total : ℕ) (form : WrittenForm) (rest : List ℕ) (w : Wording
 form_spelled total (input start) rest w fits words behind = record { placed = input start; same = refl; stands = start_stands total start rest w fits behind }
 form_spelled total (value start) rest w fits words behind = record { placed = value start; same = refl; stands = start_stands total start rest w fits behind }
 form_spelled total (task parameters body) rest w fits words behind =
-    let h = both (list_all name_is_word parameters) (term_has_words body) words in
-    let b = below body 64 fits in
-    let r = term_spelled total body b.levels (32 ∷ 125 ∷ rest) (a_symbol symbol.CloseBrace w) b.fits h.1 refl
+    let f = both (list_all name_fits parameters) (whole_fits body) fits in
+    let b = below body 64 f.1 in
+    let r = term_spelled total body b.levels (32 ∷ 125 ∷ rest) (a_symbol symbol.CloseBrace w) b.fits words refl
     (Stands-blank total 32 (125 ∷ rest) _ refl (Stands-close_brace total rest w behind)) in
     let inside = term_text body ++ 32 ∷ 125 ∷ rest in
     let after = 41 ∷ 32 ∷ 123 ∷ 32 ∷ inside in
-    let names = names_spelled total parameters after _ h.0 refl (Stands-close total (32 ∷ 123 ∷ 32 ∷ inside) _
+    let names = names_spelled total parameters after _ f.0 refl (Stands-close total (32 ∷ 123 ∷ 32 ∷ inside) _
     (Stands-blank total 32 (123 ∷ 32 ∷ inside) _ refl (Stands-open_brace total (32 ∷ inside) _ (Stands-blank total 32 inside _ refl r.stands)))) in
     record {
       placed = task names.placed r.placed;
@@ -447,7 +448,7 @@ item_same p q n m f g e h = ap₂ (λ (x : Name) (y : WrittenForm). record { pla
 item_spelled : (total : ℕ) (item : WrittenItem) (rest : List ℕ) (w : Wording) → item_fits item ≡ true → item_has_words item ≡ true → Stands total rest w
     → Spelled unplaced_item spell_item total (item_text item ++ rest) item w
 item_spelled total item rest w fits words behind =
-    let h = both (is_name item.name.text) (form_has_words item.form) words in
+    let h = both (name_fits item.name) (form_has_words item.form) words in
     let r = form_spelled total item.form rest w fits h.1 behind in
     let after = form_text item.form ++ rest in
     let name = name_there total item.name.text after in

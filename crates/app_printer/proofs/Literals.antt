@@ -2,13 +2,16 @@
 use Rattle.std.proofs.Common.{◌≡◌, ℕ, ◌+◌, ◌-◌, ◌^◌, ◌≤◌, ◌<◌, List, [], ◌∷◌, ◌++◌, length, refl, sym, ap, ◌∙◌, arith, Bool, true, false, ◌&&◌, nat_eq, nat_le, Result, Ok, append_assoc, append-nil, length-append, rules}
 use Rattle.std.specs.List.{list_all}
 use Rattle.std.specs.Fmt.{decimal}
+use Rattle.std.specs.Str.{is_utf8}
+use Rattle.std.proofs.lemmas.Str.{IsUtf8-append, IsUtf8-from_is_utf8}
 use Rattle.std.proofs.lemmas.Bool.Decides.{nat_tests}
 use Rattle.std.proofs.lemmas.Str.Parse.{IsNumeralModel, numerals_by_fold}
 use Rattle.std.proofs.lemmas.Fmt.{digits_decimal, digits_value-decimal, decimal_nonempty}
 use Rattle.app_tokens.specs.declared.token.Kind.TheVariants as kind
 use Rattle.app_tokens.specs.declared.symbol.Symbol.TheVariants as symbol
 use Rattle.app_tokens.specs.declared.error.TokenError.{TokenError}
-use Rattle.app_tokens.specs.Scan.{is_digit, is_of_word, value_after, text_from, is_pair, meaning_of, piece_of, token}
+use Rattle.rx_value.specs.Names.{is_digit, is_of_word}
+use Rattle.app_tokens.specs.Scan.{value_after, text_from, is_pair, meaning_of, piece_of, token}
 use Rattle.app_tokens.specs.Symbol.{symbol_of}
 use Rattle.app_tokens.specs.Text.{is_plain}
 use Rattle.app_tokens.proofs.Again.{begins_with, piece_of-number, piece_of-text, symbol_of-one, text_from-escape, text_from-close}
@@ -20,6 +23,7 @@ use Rattle.app_tree.specs.Fits.{is_natural, is_text_byte, is_text}
 use Rattle.app_reader.specs.Spelling.{Wording, of_kind, next, a_number, a_symbol, operator_symbol}
 use Rattle.app_printer.specs.Canonical.{operator_text, escaped_byte, escaped, quoted}
 use Rattle.app_printer.proofs.Escapes.{escaped_byte-plain}
+use Rattle.app_printer.proofs.Utf8.{ascii_utf8, digits_utf8, escaped_utf8}
 use Rattle.app_printer.proofs.TokenLaws.{Stands, Stands-token, Stands-symbol}
 
 -- ---- operators before a blank
@@ -27,24 +31,24 @@ use Rattle.app_printer.proofs.TokenLaws.{Stands, Stands-token, Stands-symbol}
 pub Stands-operator : (total : ℕ) (op : Operator) (rest : List ℕ) (w : Wording) → Stands total (32 ∷ rest) w
     → Stands total (operator_text op ++ 32 ∷ rest) (a_symbol (operator_symbol op) w)
 unfolding symbol_of
-Stands-operator total operator.Or rest w = Stands-symbol total 124 (124 ∷ []) (32 ∷ rest) symbol.Or w refl refl
-Stands-operator total operator.And rest w = Stands-symbol total 38 (38 ∷ []) (32 ∷ rest) symbol.And w refl refl
+Stands-operator total operator.Or rest w = Stands-symbol total 124 (124 ∷ []) (32 ∷ rest) symbol.Or w refl refl refl
+Stands-operator total operator.And rest w = Stands-symbol total 38 (38 ∷ []) (32 ∷ rest) symbol.And w refl refl refl
 Stands-operator total (operator.Strict bin.Add) rest w =
-    Stands-symbol total 43 [] (32 ∷ rest) symbol.Plus w refl (symbol_of-one 43 (32 ∷ rest) symbol.Plus refl (refl, refl))
+    Stands-symbol total 43 [] (32 ∷ rest) symbol.Plus w refl refl (symbol_of-one 43 (32 ∷ rest) symbol.Plus refl (refl, refl))
 Stands-operator total (operator.Strict bin.Subtract) rest w =
-    Stands-symbol total 45 [] (32 ∷ rest) symbol.Minus w refl (symbol_of-one 45 (32 ∷ rest) symbol.Minus refl (refl, refl))
+    Stands-symbol total 45 [] (32 ∷ rest) symbol.Minus w refl refl (symbol_of-one 45 (32 ∷ rest) symbol.Minus refl (refl, refl))
 Stands-operator total (operator.Strict bin.Multiply) rest w =
-    Stands-symbol total 42 [] (32 ∷ rest) symbol.Star w refl (symbol_of-one 42 (32 ∷ rest) symbol.Star refl (refl, refl))
-Stands-operator total (operator.Strict bin.Divide) rest w = Stands-symbol total 37 (47 ∷ 37 ∷ []) (32 ∷ rest) symbol.Quotient w refl refl
-Stands-operator total (operator.Strict bin.Modulo) rest w = Stands-symbol total 37 (37 ∷ []) (32 ∷ rest) symbol.Remainder w refl refl
-Stands-operator total (operator.Strict bin.Equal) rest w = Stands-symbol total 61 (61 ∷ []) (32 ∷ rest) symbol.Equal w refl refl
-Stands-operator total (operator.Strict bin.NotEqual) rest w = Stands-symbol total 33 (61 ∷ []) (32 ∷ rest) symbol.NotEqual w refl refl
+    Stands-symbol total 42 [] (32 ∷ rest) symbol.Star w refl refl (symbol_of-one 42 (32 ∷ rest) symbol.Star refl (refl, refl))
+Stands-operator total (operator.Strict bin.Divide) rest w = Stands-symbol total 37 (47 ∷ 37 ∷ []) (32 ∷ rest) symbol.Quotient w refl refl refl
+Stands-operator total (operator.Strict bin.Modulo) rest w = Stands-symbol total 37 (37 ∷ []) (32 ∷ rest) symbol.Remainder w refl refl refl
+Stands-operator total (operator.Strict bin.Equal) rest w = Stands-symbol total 61 (61 ∷ []) (32 ∷ rest) symbol.Equal w refl refl refl
+Stands-operator total (operator.Strict bin.NotEqual) rest w = Stands-symbol total 33 (61 ∷ []) (32 ∷ rest) symbol.NotEqual w refl refl refl
 Stands-operator total (operator.Strict bin.Less) rest w =
-    Stands-symbol total 60 [] (32 ∷ rest) symbol.Less w refl (symbol_of-one 60 (32 ∷ rest) symbol.Less refl (refl, refl))
-Stands-operator total (operator.Strict bin.LessOrEqual) rest w = Stands-symbol total 60 (61 ∷ []) (32 ∷ rest) symbol.AtMost w refl refl
+    Stands-symbol total 60 [] (32 ∷ rest) symbol.Less w refl refl (symbol_of-one 60 (32 ∷ rest) symbol.Less refl (refl, refl))
+Stands-operator total (operator.Strict bin.LessOrEqual) rest w = Stands-symbol total 60 (61 ∷ []) (32 ∷ rest) symbol.AtMost w refl refl refl
 Stands-operator total (operator.Strict bin.Greater) rest w =
-    Stands-symbol total 62 [] (32 ∷ rest) symbol.Greater w refl (symbol_of-one 62 (32 ∷ rest) symbol.Greater refl (refl, refl))
-Stands-operator total (operator.Strict bin.GreaterOrEqual) rest w = Stands-symbol total 62 (61 ∷ []) (32 ∷ rest) symbol.AtLeast w refl refl
+    Stands-symbol total 62 [] (32 ∷ rest) symbol.Greater w refl refl (symbol_of-one 62 (32 ∷ rest) symbol.Greater refl (refl, refl))
+Stands-operator total (operator.Strict bin.GreaterOrEqual) rest w = Stands-symbol total 62 (61 ∷ []) (32 ∷ rest) symbol.AtLeast w refl refl refl
 
 -- ---- numbers
 
@@ -73,7 +77,7 @@ digits total n [] rest w all some value le stop behind = absurd (omega arith)
 digits total n (d ∷ ds) rest w all some value le stop behind =
     let h = both (is_digit d) (list_all is_digit ds) all in
     let small : value_after 0 (d ∷ ds) ≤ 9223372036854775807 = omega arith in
-    Stands-token total (d ∷ ds) rest (kind.Number n) (of_kind (kind.Number n)) w some
+    Stands-token total (d ∷ ds) rest (kind.Number n) (of_kind (kind.Number n)) w some (digits_utf8 (d ∷ ds) all)
     (λ place. piece_of-number true place d ds rest h.0 h.1 stop small ∙ ap (λ v. Ok (token (length (d ∷ ds)) (kind.Number v))) value) refl behind
 
 pub Stands-number : (total n : ℕ) (rest : List ℕ) (w : Wording) → is_natural n ≡ true → begins_with is_of_word rest ≡ false
@@ -139,11 +143,14 @@ short n e = grind (arith, nat_tests)
 pub Stands-text : (total : ℕ) (bytes rest : List ℕ) (w : Wording) → is_text bytes ≡ true → Stands total rest w
     → Stands total (quoted bytes ++ rest) (next (of_kind (kind.Text bytes)) w)
 Stands-text total bytes rest w fits behind =
-    let h = both (nat_le (length bytes) 65536) (list_all is_text_byte bytes) fits in
+    let u = both (nat_le (length bytes) 65536 && list_all is_text_byte bytes) (is_utf8 bytes) fits in
+    let h = both (nat_le (length bytes) 65536) (list_all is_text_byte bytes) u.0 in
+    let utf8 = IsUtf8-append (34 ∷ []) (escaped bytes ++ 34 ∷ []) (ascii_utf8 (34 ∷ []) refl)
+    (IsUtf8-append (escaped bytes) (34 ∷ []) (escaped_utf8 bytes (IsUtf8-from_is_utf8 bytes u.1)) (ascii_utf8 (34 ∷ []) refl)) in
     let size : (place : ℕ) → place + 1 + length (escaped bytes) + 1 - place ≡ length (quoted bytes) =
     λ place. omega (arith, length-append (escaped bytes) (34 ∷ [])) in
     let inside : (escaped bytes ++ 34 ∷ []) ++ rest ≡ escaped bytes ++ 34 ∷ rest = append_assoc (escaped bytes) (34 ∷ []) rest in
-    Stands-token total (quoted bytes) rest (kind.Text bytes) (of_kind (kind.Text bytes)) w (omega arith)
+    Stands-token total (quoted bytes) rest (kind.Text bytes) (of_kind (kind.Text bytes)) w (omega arith) utf8
     (λ place. ap (λ l. piece_of true place (34 ∷ l)) inside
     ∙ (piece_of-text true place (escaped bytes ++ 34 ∷ rest) bytes (place + 1 + length (escaped bytes) + 1) (escaped-read place bytes rest h.1 (place + 1) []) (short (length bytes) h.0)
     ∙ ap (λ n. Ok (token n (kind.Text bytes))) (size place))) refl behind

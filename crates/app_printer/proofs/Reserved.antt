@@ -4,7 +4,7 @@ use Rattle.std.specs.List.{list_all}
 use Rattle.app_tokens.specs.declared.word.Word.{Word}
 use Rattle.app_tokens.specs.declared.word.Word.TheVariants as word
 use Rattle.app_tokens.specs.Word.{word_of}
-use Rattle.app_tokens.specs.Scan.{is_letter, is_of_word}
+use Rattle.rx_value.specs.Names.{is_letter, is_of_word}
 
 abbrev pub word_text : Word → List ℕ
 word_text word.Budget = codes "budget"

@@ -12,7 +12,7 @@ use Rattle.rx_value.specs.declared.plot.Plot.TheVariants as drawn
 use Rattle.app_tokens.specs.declared.word.Word.{Word}
 use Rattle.app_tokens.specs.declared.word.Word.TheVariants as word
 use Rattle.app_tokens.specs.declared.symbol.Symbol.TheVariants as symbol
-use Rattle.app_tokens.specs.Scan.{is_letter, is_digit, is_of_word}
+use Rattle.rx_value.specs.Names.{is_letter, is_digit, is_of_word, is_name}
 use Rattle.app_tokens.proofs.Again.{begins_with}
 use Rattle.app_tree.specs.declared.term.Function.{Function}
 use Rattle.app_tree.specs.declared.term.Function.TheVariants as function
@@ -20,12 +20,12 @@ use Rattle.app_tree.specs.declared.draft_term.Name.{Name}
 use Rattle.app_tree.specs.declared.draft_term.ReadForm.{ReadForm}
 use Rattle.app_tree.specs.declared.draft_term.ReadForm.TheVariants as form
 use Rattle.app_tree.specs.DraftTree.{DraftTree, constant, group, read, variable, isolate, stop, require, fold, unary, binary, choice, call, DraftTrees, no_trees, tree}
-use Rattle.app_tree.specs.Fits.{literal_fits, term_fits, terms_fit, whole_in, deeper, operators, are_operands, is_signed, arguments_of, count}
+use Rattle.app_tree.specs.Fits.{name_fits, literal_fits, term_fits, terms_fit, whole_in, deeper, operators, are_operands, is_signed, arguments_of, count}
 use Rattle.rx_value.specs.Functions.{is_count}
 use Rattle.app_reader.specs.Spelling.{Wording, of_kind, next, a_word, a_word_at, a_symbol, a_name, literal_kind, function_word, sign_symbol, operator_symbol, spell_named, spell_cancels, spell_term, spell_terms, spell_more}
 use Rattle.app_printer.specs.Canonical.{constant_text, read_text, cancels_text, function_text, sign_text, operator_text, term_text, terms_text, more_terms}
 use Rattle.app_tree.specs.Unplaced.{unplaced_of, unplaced_tree, unplaced_trees}
-use Rattle.app_check.specs.Words.{is_name, term_has_words, terms_have_words}
+use Rattle.app_check.specs.Words.{term_has_words, terms_have_words}
 use Rattle.app_printer.proofs.Reserved.{word_text}
 use Rattle.app_printer.proofs.TokenLaws.{Stands, place_of, name_there, Stands-blank, Stands-word, Stands-word_at, Stands-name, Stands-called, Stands-open, Stands-close, Stands-comma, Stands-dollar, Stands-minus, Stands-not}
 use Rattle.app_printer.proofs.Literals.{numerals, natural_below, Stands-operator, Stands-number, Stands-text}
@@ -229,7 +229,7 @@ term_signable : (t : DraftTree) (levels : ℕ) (rest : List ℕ) → term_fits t
 term_signable (constant k) levels rest fits words = literal_signable k rest fits
 term_signable (group t) levels rest fits words = refl
 term_signable (read f place name) levels rest fits words = read_signable f name.text rest words
-term_signable (variable name) levels rest fits words = name_signable name.text rest words
+term_signable (variable name) levels rest fits words = name_signable name.text rest fits
 term_signable (isolate place t) levels rest fits words = refl
 term_signable (stop t) levels rest fits words = refl
 term_signable (require t cancels) levels rest fits words = refl
@@ -310,7 +310,7 @@ mutual
       }
   term_spelled total (read f place name) levels rest w fits words halts behind = read_spelled total f place name rest w words halts behind
   term_spelled total (variable name) levels rest w fits words halts behind =
-      record { placed = variable (name_there total name.text rest); same = refl; stands = Stands-name total name.text rest w words halts behind }
+      record { placed = variable (name_there total name.text rest); same = refl; stands = Stands-name total name.text rest w fits halts behind }
   term_spelled total (isolate place t) levels rest w fits words halts behind =
       let b = below t levels fits in
       let r = term_spelled total t b.levels (41 ∷ rest) (a_symbol symbol.Close w) b.fits words refl (Stands-close total rest w behind) in
@@ -342,12 +342,14 @@ mutual
             (Stands-open total (term_text t ++ (cancels_text cancels ++ 41 ∷ rest)) _ r.stands));
       }
   term_spelled total (fold place list start a x body) levels rest w fits words halts behind =
-      let f = both (whole_in list levels (λ b. term_fits list b) && whole_in start levels (λ b. term_fits start b)) (whole_in body levels (λ b. term_fits body b)) fits in
-      let g = both (whole_in list levels (λ b. term_fits list b)) (whole_in start levels (λ b. term_fits start b)) f.0 in
-      let h = both (term_has_words list && term_has_words start && is_name a.text && is_name x.text) (term_has_words body) words in
-      let i = both (term_has_words list && term_has_words start && is_name a.text) (is_name x.text) h.0 in
-      let j = both (term_has_words list && term_has_words start) (is_name a.text) i.0 in
-      let k = both (term_has_words list) (term_has_words start) j.0 in
+      let list_fits : Bool = whole_in list levels (λ b. term_fits list b) in
+      let start_fits : Bool = whole_in start levels (λ b. term_fits start b) in
+      let f = both (list_fits && start_fits && name_fits a && name_fits x) (whole_in body levels (λ b. term_fits body b)) fits in
+      let i = both (list_fits && start_fits && name_fits a) (name_fits x) f.0 in
+      let j = both (list_fits && start_fits) (name_fits a) i.0 in
+      let g = both list_fits start_fits j.0 in
+      let h = both (term_has_words list && term_has_words start) (term_has_words body) words in
+      let k = both (term_has_words list) (term_has_words start) h.0 in
       let list_below = below list levels g.0 in
       let start_below = below start levels g.1 in
       let body_below = below body levels f.1 in

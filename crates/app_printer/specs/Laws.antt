@@ -1,6 +1,5 @@
 -- The laws of printing: a canonical text is read as what it is the text of.
 use Rattle.std.specs.Prelude.{ℕ, ◌≡◌, true, List, length, Ok}
-use Rattle.std.specs.Str.{IsUtf8}
 use Rattle.app_tokens.specs.declared.token.Token.{Token}
 use Rattle.app_tokens.specs.Tokens.{Tokens}
 use Rattle.app_tokens.specs.Scan.{tokens_of}
@@ -22,10 +21,9 @@ pub record IsCutAs (draft placed : DraftShape) (tokens : List Token) : Type 0 wh
   pub cut : tokens_of (draft_text draft) ≡ Ok (record { tokens = tokens; end = length (draft_text draft) })
   pub wanted : AreWanted (canonical_spelling placed) tokens
 
--- so is the text of each draft that a text can give, whose names are words that aren't reserved. Only its texts could be no
--- UTF-8, and in an app none is
+-- so is the text of each draft that a text can give, whose items are named by words that aren't reserved
 abbrev pub TokensAreSpelling : Type 0
-TokensAreSpelling = (draft : DraftShape) → fits draft ≡ true → has_words draft ≡ true → IsUtf8 (draft_text draft)
+TokensAreSpelling = (draft : DraftShape) → fits draft ≡ true → has_words draft ≡ true
     → (placed : DraftShape) × (tokens : List Token) × IsCutAs draft placed tokens
 
 -- the text of a draft is cut into tokens that are read as the draft, but for its places
@@ -35,7 +33,7 @@ pub record IsReadAs (text : List ℕ) (draft : DraftShape) (tokens : Tokens) (pl
   pub same : unplaced placed ≡ unplaced draft
 
 abbrev pub TextIsRead : Type 0
-TextIsRead = (draft : DraftShape) → fits draft ≡ true → has_words draft ≡ true → IsUtf8 (draft_text draft)
+TextIsRead = (draft : DraftShape) → fits draft ≡ true → has_words draft ≡ true
     → (tokens : Tokens) × (placed : DraftShape) × IsReadAs (draft_text draft) draft tokens placed
 
 -- the draft in which an app is written has no places

@@ -312,7 +312,7 @@ fn printed(alloc: Global, app: &App) -> Result<RxText, Memory>
 }
 
 /// The canonical text of an app: a line for the budget, and a line for each item in its order. Where
-/// each name is a word that isn't reserved, as in each app that `app_check::load` answers, the text
+/// each item is named by a word that isn't reserved, as in each app that `app_check::load` answers, the text
 /// stands for this app, but that it may be longer than a file may be.
 pub fn print(alloc: Global, app: &App) -> Result<RxText, Memory>
     ensures text { IfOk result (λ text. text ≡ canonical_text (shape_of app.now)) }

@@ -14,7 +14,7 @@ use Rattle.app_tree.specs.declared.item.Flags.{Flags}
 use Rattle.app_tree.specs.declared.draft_term.Name.{Name}
 use Rattle.app_tree.specs.DraftTree.{DraftTree, DraftTrees, no_trees, tree, DraftActs, WrittenBody, WrittenOutput, WrittenForm, input, value, task, reactive, event, text, plot, observe, on, WrittenItem}
 use Rattle.app_tree.specs.DraftView.{draft_trees, draft_acts}
-use Rattle.app_tree.specs.Fits.{is_number, constant_fits, whole_fits, all_fit, block_fits, body_fits, output_fits, form_fits, item_fits, is_budget, fits}
+use Rattle.app_tree.specs.Fits.{name_fits, is_number, constant_fits, whole_fits, all_fit, block_fits, body_fits, output_fits, form_fits, item_fits, is_budget, fits}
 use Rattle.app_reader.specs.declared.error.ReadError.{ReadError}
 use Rattle.app_reader.specs.State.{◌>>=◌, choose, found, place_of, skip, is_name, is_word_next, is_symbol_next, is_name_next, is_more, is_some_in, unexpected, symbol_at, name_at, turns_of}
 use Rattle.app_reader.specs.Terms.{whole_term_at, bracketed_at, listed_at}
@@ -22,7 +22,7 @@ use Rattle.app_reader.specs.Constants.{constant_at, priority_at}
 use Rattle.app_reader.specs.Statements.{whole_block_at, body_at}
 use Rattle.app_reader.specs.Items.{flag_at, flags_at, cache_at, keys_at, further_name_at, names_at, optional_names_at, parameters_at, start_at, input_form_at, value_form_at, task_form_at, reactive_form_at, event_form_at, output_at, text_form_at, plot_form_at, observe_form_at, on_form_at, begins_item, form_at, named_item_at, worded_item_at, item_at, further_item_at, items_at, read_at}
 use Rattle.app_reader.specs.Spelling.{Wanted, of_kind, at_place, named, Wording, ends, next, either, IsSpelledBy, first_way, AreWanted, a_symbol, a_name, spell_term, spell_terms, spell_constant, spell_block, spell_body, spell_bracketed, spell_flag, spell_flags, spell_keys, spell_more_names, spell_names, spell_start, spell_output, form_word, spell_form, spell_item, spell_items, spelling}
-use Rattle.app_reader.specs.Laws.{SpelledIsRead, CanonicalIsRead, DraftIsOne, NoneIsBoth}
+use Rattle.app_reader.specs.Laws.{SpelledIsRead, CanonicalIsRead, DraftIsOne, RefusedIsNone}
 use Rattle.app_reader.proofs.Got.{and_left, and_right}
 use Rattle.app_reader.proofs.Again.{To, Again, then1, then2, then3, then4, by_first, by_other, first_is, word_is, tail_is, place_is, behind, may_begin, never, same_refl, symbol_again, name_again, all_of, Stepped, loop_again}
 use Rattle.app_reader.proofs.ChainsAgain.{Stops}
@@ -145,12 +145,12 @@ whole_read t after fits stops s is = whole_again t fits s after stops is
 whole_bracketed : (t : DraftTree) (after : Wording) → whole_fits t ≡ true → Again (bracketed_at whole_term_at) (spell_bracketed t after) t after
 whole_bracketed t after fits s is = bracketed_again whole_term_at t after (whole_again t fits) s is
 
-task_again : (ns : List Name) (t : DraftTree) (after : Wording) → whole_fits t ≡ true → Again task_form_at (spell_form (task ns t) after) (task ns t) after
+task_again : (ns : List Name) (t : DraftTree) (after : Wording) → form_fits (task ns t) ≡ true → Again task_form_at (spell_form (task ns t) after) (task ns t) after
 unfolding task_form_at
 task_again ns t after fits s is =
     let m1 : Wording = spell_term t (a_symbol symbol.CloseBrace after) in
     then4 s (parameters_at s) (symbol_at symbol.OpenBrace) whole_term_at (symbol_at symbol.CloseBrace) (λ ns u t c. task ns t) (parameters_again ns (a_symbol symbol.OpenBrace m1) s is) (symbol_again symbol.OpenBrace m1)
-    (whole_read t (a_symbol symbol.CloseBrace after) fits refl) (symbol_again symbol.CloseBrace after)
+    (whole_read t (a_symbol symbol.CloseBrace after) (and_right (list_all name_fits ns) (whole_fits t) fits) refl) (symbol_again symbol.CloseBrace after)
 
 reactive_again : (ts : DraftTrees) (body : WrittenBody) (after : Wording) → form_fits (reactive ts body) ≡ true → Again reactive_form_at (spell_form (reactive ts body) after) (reactive ts body) after
 unfolding reactive_form_at
@@ -328,10 +328,10 @@ ok_one : {A : Type 0} (r : Result A ReadError) (x y : A) → r ≡ Ok x → r �
 ok_one r x y p q = cc
 
 pub draft_is_one : DraftIsOne
-draft_is_one s one other p q = ok_one (read_at s) one other p q
+draft_is_one s one other fits also is was = ok_one (read_at s) one other (spelled_is_read s one fits is) (spelled_is_read s other also was)
 
 ok_no_err : {A : Type 0} (r : Result A ReadError) (x : A) (e : ReadError) → r ≡ Ok x → r ≡ Err e → ⊥
 ok_no_err r x e p q = cc
 
-pub none_is_both : NoneIsBoth
-none_is_both s draft refusal p q = ok_no_err (read_at s) draft refusal p q
+pub refused_is_none : RefusedIsNone
+refused_is_none s refusal draft err fits is = ok_no_err (read_at s) draft refusal (spelled_is_read s draft fits is) err

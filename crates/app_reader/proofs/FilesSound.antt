@@ -11,7 +11,7 @@ use Rattle.app_tree.specs.declared.draft_term.Name.{Name}
 use Rattle.app_tree.specs.DraftTree.{DraftTree, WrittenForm, input, value, task, reactive, event, text, plot, observe, on, WrittenItem, DraftShape}
 use Rattle.app_tree.specs.Held.{HeldDraft}
 use Rattle.app_tree.specs.DraftView.{draft_trees, draft_acts, draft_shape_of}
-use Rattle.app_tree.specs.Fits.{is_number, constant_fits, whole_fits, all_fit, block_fits, body_fits, output_fits, form_fits, item_fits, is_budget, fits}
+use Rattle.app_tree.specs.Fits.{name_fits, is_number, constant_fits, whole_fits, all_fit, block_fits, body_fits, output_fits, form_fits, item_fits, is_budget, fits}
 use Rattle.app_reader.specs.declared.error.ReadError.{ReadError}
 use Rattle.app_reader.specs.State.{Answers, ◌>>=◌, choose, found, place_of, skip, is_word_next, is_symbol_next, is_name_next, is_more, is_some_in, next_word, unexpected, symbol_at, name_at, turns_of}
 use Rattle.app_reader.specs.Terms.{whole_term_at, bracketed_at, listed_at}
@@ -72,27 +72,31 @@ names_push : (ns : List Name) (n : Name) (rest : Wording) → IsMany ns → spel
 names_push [] n rest many = absurd many
 names_push (x ∷ ns) n rest many = ap (a_name x) (more_names_push ns n rest)
 
-names_sound : IsSound spell_names IsMany names_at
+-- names as a text can give them
+abbrev AreWords : List Name → Type 0
+AreWords ns = list_all name_fits ns ≡ true
+
+names_sound : IsSound spell_names (λ ns. IsMany ns × AreWords ns) names_at
 unfolding names_at further_name_at
 names_sound s =
     bind_sound s (name_at s) (λ first. turns_of (suc (length first.1.tokens)) (λ b. is_symbol_next symbol.Comma b.1) further_name_at (first.0 ∷ [], first.1)) (name_sound s)
     (λ a g. collected s (λ b. is_symbol_next symbol.Comma b.1) further_name_at (suc (length a.1.tokens)) (a.0 ∷ [], a.1)
     (λ b holds got. pushed s b (name_at (skip b.1)) got (behind_symbol symbol.Comma b.1 (name_at (skip b.1)) (symbol_stands symbol.Comma b.1 holds) (name_sound (skip b.1)))
-    (λ n p q. many_push b.0 n) (λ n rest p. names_push b.0 n rest p))
-    (seq1 s (Ok a) (λ n. n ∷ []) (already s a g) (λ n p. tt) (λ n rest p h. h)))
+    (λ n p q. (many_push b.0 n, all_push name_fits b.0 n p.1 q)) (λ n rest p. names_push b.0 n rest p.0))
+    (seq1 s (Ok a) (λ n. n ∷ []) (already s a g) (λ n p. (tt, both (name_fits n) true p refl)) (λ n rest p h. h)))
 
-optional_names_sound : IsSound spell_names Any optional_names_at
+optional_names_sound : IsSound spell_names AreWords optional_names_at
 unfolding optional_names_at
 optional_names_sound s =
     choose_sound (is_name_next s) names_at (λ t. Ok ([], t)) s
-    (λ e. weaker s (names_at s) (names_sound s) (λ ns p. tt))
-    (λ e. stays s [] tt (λ rest h. h))
+    (λ e. weaker s (names_at s) (names_sound s) (λ ns p. p.1))
+    (λ e. stays s [] refl (λ rest h. h))
 
-parameters_sound : IsSound (λ ns rest. a_symbol symbol.Open (spell_names ns (a_symbol symbol.Close rest))) Any parameters_at
+parameters_sound : IsSound (λ ns rest. a_symbol symbol.Open (spell_names ns (a_symbol symbol.Close rest))) AreWords parameters_at
 unfolding parameters_at
 parameters_sound s =
     seq3 s (symbol_at symbol.Open s) optional_names_at (symbol_at symbol.Close) (λ u ns c. ns) (symbol_sound symbol.Open s) optional_names_sound (symbol_sound symbol.Close)
-    (λ u ns c p q r. tt) (λ u ns c rest p q h. h)
+    (λ u ns c p q r. q) (λ u ns c rest p q h. h)
 
 -- ---- items, behind their names
 
@@ -118,7 +122,7 @@ task_sound : IsSound spell_form (IsForm word.Task) task_form_at
 unfolding task_form_at
 task_sound s =
     seq4 s (parameters_at s) (symbol_at symbol.OpenBrace) whole_term_at (symbol_at symbol.CloseBrace) (λ ns u t c. task ns t) (parameters_sound s) (symbol_sound symbol.OpenBrace) whole_term_sound (symbol_sound symbol.CloseBrace)
-    (λ ns u t c p q r o. (refl, r)) (λ ns u t c rest p h. h)
+    (λ ns u t c p q r o. (refl, both (list_all name_fits ns) (whole_fits t) p r)) (λ ns u t c rest p h. h)
 
 reactive_sound : IsSound spell_form (IsForm word.Reactive) reactive_form_at
 unfolding reactive_form_at

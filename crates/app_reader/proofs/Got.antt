@@ -9,11 +9,11 @@ use Rattle.app_tokens.specs.Tokens.{Tokens}
 use Rattle.app_tokens.specs.Kind.{is_word, is_symbol}
 use Rattle.app_tokens.proofs.KindTests.{is_word-is, is_symbol-is}
 use Rattle.app_tree.specs.declared.draft_term.Name.{Name}
-use Rattle.app_tree.specs.Fits.{is_natural, is_text}
+use Rattle.app_tree.specs.Fits.{is_natural, is_text, name_fits}
 use Rattle.app_reader.specs.declared.error.ReadError.{ReadError}
 use Rattle.app_reader.specs.State.{Reads, ◌>>=◌, choose, found, place_of, rest_of, skip, is_of_first, is_word_next, is_symbol_next, word_of, word_in, next_word, symbol_of, symbol_in, next_symbol, unexpected, word_at, symbol_at, name_at, name_in, number_at, number_in, number_of, text_at, text_in, text_of, turns_of}
 use Rattle.app_reader.specs.Spelling.{of_kind, at_place, Wording, next, IsSpelledBy, a_word, a_word_at, a_symbol, a_number, a_name}
-use Rattle.app_reader.specs.Laws.{kind_fits, tokens_fit}
+use Rattle.app_reader.specs.Laws.{token_fits, tokens_fit}
 
 -- ---- generalities
 
@@ -243,7 +243,7 @@ led : (k : Kind) (t : Token) (ts : List Token) (end : ℕ) → t.kind ≡ k → 
 led k t ts end is = record {
   leads = λ rest left. (is, left);
   leads_there = λ rest left. ((is, refl), left);
-  good = λ fit. and_right (kind_fits t.kind) (tokens_fit ts) fit;
+  good = λ fit. and_right (token_fits t) (tokens_fit ts) fit;
   shorter = refl;
 }
 
@@ -394,19 +394,23 @@ text_sound s = record { so = λ good y e. more s.tokens good y e }
     more [] good y e = absurd cc
     more (t ∷ ts) good y e = by t.kind t.place t.spelling ts good y e
 
-pub name_sound : IsSound a_name Any name_at
+-- a name as a text can give it
+abbrev pub IsWord : Name → Type 0
+IsWord n = name_fits n ≡ true
+
+pub name_sound : IsSound a_name IsWord name_at
 unfolding name_at
 name_sound s = record { so = λ good y e. more s.tokens good y e }
   where
-    by : (k : Kind) (place : ℕ) (spelling : List ℕ) (ts : List Token) → tokens_fit ts ≡ true → (y : Name × Tokens) → name_in (record { kind = k; place = place; spelling = spelling } ∷ ts) s.end ≡ Ok y
-        → Got a_name Any (record { tokens = record { kind = k; place = place; spelling = spelling } ∷ ts; end = s.end }) y
+    by : (k : Kind) (place : ℕ) (spelling : List ℕ) (ts : List Token) → tokens_fit (record { kind = k; place = place; spelling = spelling } ∷ ts) ≡ true → (y : Name × Tokens) → name_in (record { kind = k; place = place; spelling = spelling } ∷ ts) s.end ≡ Ok y
+        → Got a_name IsWord (record { tokens = record { kind = k; place = place; spelling = spelling } ∷ ts; end = s.end }) y
     by kind.Name place spelling ts good y e =
         let now : Tokens = record { tokens = record { kind = kind.Name; place = place; spelling = spelling } ∷ ts; end = s.end } in
         let made : Name × Tokens = (record { text = spelling; place = place }, record { tokens = ts; end = s.end }) in
-        subst (Got a_name Any now) (ok_is made y e) (record {
+        subst (Got a_name IsWord now) (ok_is made y e) (record {
           spells = λ rest left. (record { is_name = refl; is_spelled = refl; is_there = refl }, left);
-          holds = tt;
-          good = good;
+          holds = and_left (name_fits made.0) (tokens_fit ts) good;
+          good = and_right (name_fits made.0) (tokens_fit ts) good;
           shorter = omega arith;
         })
     by (kind.Number n) place spelling ts good y e = absurd cc
@@ -414,9 +418,9 @@ name_sound s = record { so = λ good y e. more s.tokens good y e }
     by (kind.Text t) place spelling ts good y e = absurd cc
     by (kind.Symbol x) place spelling ts good y e = absurd cc
 
-    more : (ts : List Token) → tokens_fit ts ≡ true → (y : Name × Tokens) → name_in ts s.end ≡ Ok y → Got a_name Any (record { tokens = ts; end = s.end }) y
+    more : (ts : List Token) → tokens_fit ts ≡ true → (y : Name × Tokens) → name_in ts s.end ≡ Ok y → Got a_name IsWord (record { tokens = ts; end = s.end }) y
     more [] good y e = absurd cc
-    more (t ∷ ts) good y e = by t.kind t.place t.spelling ts (and_right (kind_fits t.kind) (tokens_fit ts) good) y e
+    more (t ∷ ts) good y e = by t.kind t.place t.spelling ts good y e
 
 -- ---- loops
 

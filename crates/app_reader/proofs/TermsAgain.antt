@@ -22,7 +22,7 @@ use Rattle.app_tree.specs.declared.draft_term.ReadForm.{ReadForm}
 use Rattle.app_tree.specs.declared.draft_term.ReadForm.TheVariants as form
 use Rattle.app_tree.specs.DraftTree.{DraftTree, constant, group, read, variable, isolate, stop, require, fold, unary, binary, choice, call, DraftTrees, no_trees, tree}
 use Rattle.app_tree.specs.DraftView.{draft_trees}
-use Rattle.app_tree.specs.Fits.{hold_of, is_signed, operators, arguments_of, count, deeper, whole_in, term_fits, terms_fit}
+use Rattle.app_tree.specs.Fits.{name_fits, hold_of, is_signed, operators, arguments_of, count, deeper, whole_in, term_fits, terms_fit}
 use Rattle.app_reader.specs.declared.error.ReadError.{ReadError}
 use Rattle.app_reader.specs.State.{Reads, ◌>>=◌, choose, found, place_of, skip, is_name, is_text, is_word_next, is_symbol_next, is_name_next, is_text_next, word_of, symbol_of, next_word, unexpected, word_at, symbol_at, name_at, number_at, text_at, turns_of}
 use Rattle.app_reader.specs.Words.{sign_of, function_of, read_form_of}
@@ -509,9 +509,11 @@ fold_facts place a b c m n ha hb hc = atom_facts (fold place a b m n c) refl (λ
     let fits_a : Bool = whole_in a levels (λ below. term_fits a below) in
     let fits_b : Bool = whole_in b levels (λ below. term_fits b below) in
     let fits_c : Bool = whole_in c levels (λ below. term_fits c below) in
-    let ra = readable levels a ha (and_left fits_a fits_b (and_left (fits_a && fits_b) fits_c f)) in
-    let rb = readable levels b hb (and_right fits_a fits_b (and_left (fits_a && fits_b) fits_c f)) in
-    let rc = readable levels c hc (and_right (fits_a && fits_b) fits_c f) in
+    let names = and_left (fits_a && fits_b && name_fits m && name_fits n) fits_c f in
+    let parts = and_left (fits_a && fits_b) (name_fits m) (and_left (fits_a && fits_b && name_fits m) (name_fits n) names) in
+    let ra = readable levels a ha (and_left fits_a fits_b parts) in
+    let rb = readable levels b hb (and_right fits_a fits_b parts) in
+    let rc = readable levels c hc (and_right (fits_a && fits_b && name_fits m && name_fits n) fits_c f) in
     let mid : Wording = a_symbol symbol.Open (spell_term a (a_symbol symbol.Comma (spell_term b (a_symbol symbol.Comma (a_name m (a_symbol symbol.Comma (a_name n (a_symbol symbol.Comma (spell_term c (a_symbol symbol.Close after)))))))))) in
     worded levels s (fold place a b m n c) after w word.Fold mid refl is (special (term_at levels) s (fold place a b m n c) after w word.Fold mid (fold_at (term_at levels)) refl is refl (fold_again (term_at levels) place a b c m n after ra rb rc s is)))
 

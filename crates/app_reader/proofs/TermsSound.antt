@@ -17,7 +17,7 @@ use Rattle.app_tree.specs.declared.draft_term.ReadForm.{ReadForm}
 use Rattle.app_tree.specs.declared.draft_term.ReadForm.TheVariants as form
 use Rattle.app_tree.specs.DraftTree.{DraftTree, constant, group, read, variable, isolate, stop, require, fold, unary, binary, choice, call}
 use Rattle.app_tree.specs.DraftView.{draft_trees}
-use Rattle.app_tree.specs.Fits.{rank_of, hold_of, left_of, are_operands, is_signed, operators, arguments_of, count, deeper, whole_in, term_fits, terms_fit}
+use Rattle.app_tree.specs.Fits.{name_fits, rank_of, hold_of, left_of, are_operands, is_signed, operators, arguments_of, count, deeper, whole_in, term_fits, terms_fit}
 use Rattle.app_reader.specs.declared.error.ReadError.{ReadError}
 use Rattle.app_reader.specs.declared.operators.Rank.{Rank}
 use Rattle.app_reader.specs.declared.operators.Rank.TheVariants as rank
@@ -27,7 +27,7 @@ use Rattle.app_reader.specs.Terms.{named_at, input_at, read_at, truth_at, truth_
 use Rattle.app_reader.specs.Spelling.{of_kind, called, Wording, next, IsSpelledBy, a_word, a_symbol, a_name, operator_symbol, sign_symbol, function_word, literal_kind, spell_named, spell_read, spell_cancels, spell_term, spell_terms, spell_more, spell_bracketed}
 use Rattle.app_reader.specs.Laws.{tokens_fit}
 use Rattle.app_reader.proofs.Ranks.{code, operator_stands, sign_stands, function_of-is, no_operators}
-use Rattle.app_reader.proofs.Got.{both, and_left, and_right, bind_ok, ok_is, Got, SoundAt, IsSound, already, refused, seq1, seq2, seq3, seq4, choose_sound, found_sound, symbol_stands, word_stands, behind_symbol, behind_word, behind_word_there, fewer_symbol, stays, onward, leads_symbol, fit_behind, weaker, bind_sound, chosen, choose_from, symbol_takes, Any, symbol_sound, word_sound, number_sound, text_sound, name_sound, loop_keeps, loop_ends, collected}
+use Rattle.app_reader.proofs.Got.{both, and_left, and_right, bind_ok, ok_is, Got, SoundAt, IsSound, already, refused, seq1, seq2, seq3, seq4, choose_sound, found_sound, symbol_stands, word_stands, behind_symbol, behind_word, behind_word_there, fewer_symbol, stays, onward, leads_symbol, fit_behind, weaker, bind_sound, chosen, choose_from, symbol_takes, Any, symbol_sound, word_sound, number_sound, text_sound, IsWord, name_sound, loop_keeps, loop_ends, collected}
 
 -- a term of its own, with so many levels from its own on
 abbrev pub Whole : ℕ → DraftTree → Type 0
@@ -54,7 +54,7 @@ named_sound levels s =
     let go : Name × Tokens → Result (DraftTree × Tokens) ReadError = λ n. choose (is_symbol_next symbol.Open n.1) (λ t. symbol_at symbol.Close (skip t) >>= λ close. Ok (read form.Named n.0.place n.0, close.1)) (λ t. Ok (variable n.0, t)) n.1 in
     bind_sound s (name_at s) go (name_sound s) (λ a g. after a g)
   where
-    after : (a : Name × Tokens) → Got a_name Any s a → SoundAt spell_term (Atom levels) s (choose (is_symbol_next symbol.Open a.1) (λ t. symbol_at symbol.Close (skip t) >>= λ close. Ok (read form.Named a.0.place a.0, close.1)) (λ t. Ok (variable a.0, t)) a.1)
+    after : (a : Name × Tokens) → Got a_name IsWord s a → SoundAt spell_term (Atom levels) s (choose (is_symbol_next symbol.Open a.1) (λ t. symbol_at symbol.Close (skip t) >>= λ close. Ok (read form.Named a.0.place a.0, close.1)) (λ t. Ok (variable a.0, t)) a.1)
     after a g =
         let n : Name = a.0 in
         let reads : DraftTree = read form.Named n.place n in
@@ -65,7 +65,7 @@ named_sound levels s =
         (λ t p is. subst (Atom levels) is (refl, refl))
         (λ t rest p is h. subst (λ t. IsSpelledBy (spell_term t rest) s.tokens) is (calls n (a_symbol symbol.Open (a_symbol symbol.Close rest)) s.tokens h)))
         (λ no. onward {SB = λ t rest. rest} {PB = λ t. variable n ≡ t} s a (Ok (variable n, a.1)) g (stays a.1 (variable n) refl (λ rest h. h))
-        (λ t p is. subst (Atom levels) is (refl, refl))
+        (λ t p is. subst (Atom levels) is (refl, p))
         (λ t rest p is h. subst (λ t. IsSpelledBy (spell_term t rest) s.tokens) is h))
 
 input_sound : (levels : ℕ) (s : Tokens) → next_word s ≡ Some word.Input → SoundAt spell_term (Atom levels) s (input_at s)
@@ -170,13 +170,13 @@ last_part_sound : (term : Reads DraftTree) (levels : ℕ) → IsSound spell_term
 unfolding last_part_at
 last_part_sound term levels h s = seq2 s (term s) (symbol_at symbol.Close) (λ t u. t) (h s) (symbol_sound symbol.Close) (λ t u p q. p) (λ t u rest p q h. h)
 
-inner_name_sound : IsSound (λ n rest. a_name n (a_symbol symbol.Comma rest)) Any inner_name_at
+inner_name_sound : IsSound (λ n rest. a_name n (a_symbol symbol.Comma rest)) IsWord inner_name_at
 unfolding inner_name_at
-inner_name_sound s = seq2 s (name_at s) (symbol_at symbol.Comma) (λ n u. n) (name_sound s) (symbol_sound symbol.Comma) (λ n u p q. tt) (λ n u rest p q h. h)
+inner_name_sound s = seq2 s (name_at s) (symbol_at symbol.Comma) (λ n u. n) (name_sound s) (symbol_sound symbol.Comma) (λ n u p q. p) (λ n u rest p q h. h)
 
-inner_names_sound : IsSound (λ (b : Name × Name) rest. a_name b.0 (a_symbol symbol.Comma (a_name b.1 (a_symbol symbol.Comma rest)))) Any inner_names_at
+inner_names_sound : IsSound (λ (b : Name × Name) rest. a_name b.0 (a_symbol symbol.Comma (a_name b.1 (a_symbol symbol.Comma rest)))) (λ b. IsWord b.0 × IsWord b.1) inner_names_at
 unfolding inner_names_at
-inner_names_sound s = seq2 s (inner_name_at s) inner_name_at (λ a b. (a, b)) (inner_name_sound s) inner_name_sound (λ a b p q. tt) (λ a b rest p q h. h)
+inner_names_sound s = seq2 s (inner_name_at s) inner_name_at (λ a b. (a, b)) (inner_name_sound s) inner_name_sound (λ a b p q. (p, q)) (λ a b rest p q h. h)
 
 fold_start_sound : (term : Reads DraftTree) (levels : ℕ) → IsSound spell_term (Whole levels) term
     → IsSound (λ (b : DraftTree × DraftTree) rest. a_symbol symbol.Open (spell_part b.0 (spell_part b.1 rest))) (λ b. Whole levels b.0 × Whole levels b.1) (fold_start_at term)
@@ -185,19 +185,19 @@ fold_start_sound term levels h s =
     seq3 s (symbol_at symbol.Open s) (part_at term) (part_at term) (λ u a b. (a, b)) (symbol_sound symbol.Open s) (part_sound term levels h) (part_sound term levels h)
     (λ u a b p q r. (q, r)) (λ u a b rest p q h. h)
 
-fold_fits : (levels : ℕ) (place : ℕ) (a b c : DraftTree) (m n : Name) → Whole levels a → Whole levels b → Whole levels c → Atom levels (fold place a b m n c)
-fold_fits levels place a b c m n p q r = (
-  refl,
-  both (whole_in a levels (λ below. term_fits a below) && whole_in b levels (λ below. term_fits b below)) (whole_in c levels (λ below. term_fits c below))
-      (both (whole_in a levels (λ below. term_fits a below)) (whole_in b levels (λ below. term_fits b below)) p q) r,
-)
+fold_fits : (levels : ℕ) (place : ℕ) (a b c : DraftTree) (m n : Name) → Whole levels a → Whole levels b → IsWord m → IsWord n → Whole levels c → Atom levels (fold place a b m n c)
+fold_fits levels place a b c m n p q u v r =
+    let fits_a : Bool = whole_in a levels (λ below. term_fits a below) in
+    let fits_b : Bool = whole_in b levels (λ below. term_fits b below) in
+    let fits_c : Bool = whole_in c levels (λ below. term_fits c below) in
+    (refl, both (fits_a && fits_b && name_fits m && name_fits n) fits_c (both (fits_a && fits_b && name_fits m) (name_fits n) (both (fits_a && fits_b) (name_fits m) (both fits_a fits_b p q) u) v) r)
 
 fold_sound : (term : Reads DraftTree) (levels : ℕ) → IsSound spell_term (Whole levels) term → (s : Tokens) → next_word s ≡ Some word.Fold → SoundAt spell_term (Atom levels) s (fold_at term s)
 unfolding fold_at
 fold_sound term levels h s begins =
     seq3 s (fold_start_at term (skip s)) inner_names_at (last_part_at term) (λ b names body. fold (place_of s) b.0 b.1 names.0 names.1 body)
     (behind_word_there word.Fold s (fold_start_at term (skip s)) begins (fold_start_sound term levels h (skip s))) inner_names_sound (last_part_sound term levels h)
-    (λ b names body p q r. fold_fits levels (place_of s) b.0 b.1 body names.0 names.1 p.0 p.1 r) (λ b names body rest p q h. h)
+    (λ b names body p q r. fold_fits levels (place_of s) b.0 b.1 body names.0 names.1 p.0 p.1 q.0 q.1 r) (λ b names body rest p q h. h)
 
 -- ---- lists of terms and calls
 

@@ -1,5 +1,7 @@
 -- Worked examples of the definition, each found by computing.
 use Rattle.std.proofs.Common.{◌≡◌, refl, Ok, Err, true, false}
+use Rattle.std.specs.Str.{is_utf8, chars}
+use Rattle.rx_value.specs.Names.{is_reserved}
 use Rattle.app_tree.specs.Fits.{whole_fits, fits}
 use Rattle.app_reader.specs.declared.error.ReadError.TheVariants as error
 use Rattle.app_reader.specs.State.{word_at, symbol_at, name_at, number_at, text_at, turns_of}
@@ -36,6 +38,7 @@ unfolding read_at budget_at limit_at items_at turns_of further_item_at item_at w
 cached_text_is_read = refl
 
 pub statements_fit : fits statements ≡ true
+unfolding is_reserved
 statements_fit = refl
 
 pub statements_are_read : read_at statements_tokens ≡ Ok statements
@@ -43,6 +46,7 @@ unfolding read_at budget_at items_at turns_of further_item_at item_at worded_ite
 statements_are_read = refl
 
 pub zeros_fit : fits zeros ≡ true
+unfolding is_utf8 chars lib.Utf8.encode
 zeros_fit = refl
 
 pub zeros_are_spelled : canonical_spelling zeros ≡ zeros_spelling

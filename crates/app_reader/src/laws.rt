@@ -1,9 +1,10 @@
 //! The laws of the grammar. Each function does nothing: it is there for its contract.
 
-ghost use Rattle.app_reader.specs.Laws.{CutTokensFit, ReadIsSpelled, SpelledIsRead, CanonicalIsRead, DraftIsOne, NoneIsBoth};
+ghost use Rattle.app_reader.specs.Laws.{CutTokensFit, ReadIsSpelled, SpelledIsRead, CanonicalIsRead, DraftIsOne, RefusedIsNone};
 
 /// The tokens of a file's bytes are such as the other laws ask for: numbers up to
-/// 9,223,372,036,854,775,807, and texts of at most 65,536 bytes, none of them below 32 but line feeds.
+/// 9,223,372,036,854,775,807, texts of at most 65,536 bytes that are UTF-8, none of them below 32 but line
+/// feeds, and names that are words which aren't reserved.
 pub fn cut_tokens_fit()
     ensures { CutTokensFit }
 {}
@@ -24,12 +25,12 @@ pub fn canonical_is_read()
     ensures { CanonicalIsRead }
 {}
 
-/// Tokens stand for one draft at most.
+/// Tokens are a spelling of one draft at most that a text can give.
 pub fn draft_is_one()
     ensures { DraftIsOne }
 {}
 
-/// Tokens that stand for a draft are not refused.
-pub fn none_is_both()
-    ensures { NoneIsBoth }
+/// Tokens that are refused are a spelling of no draft that a text can give.
+pub fn refused_is_none()
+    ensures { RefusedIsNone }
 {}

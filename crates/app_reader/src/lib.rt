@@ -22,5 +22,6 @@ pub use error::ReadError;
 pub use examples::{worked_examples, worked_limits, worked_spellings};
 pub use items::read;
 pub use laws::{
-    canonical_is_read, cut_tokens_fit, draft_is_one, none_is_both, read_is_spelled, spelled_is_read,
+    canonical_is_read, cut_tokens_fit, draft_is_one, read_is_spelled, refused_is_none,
+    spelled_is_read,
 };

@@ -7,7 +7,8 @@ use Rattle.app_tokens.specs.declared.symbol.Symbol.{Symbol}
 use Rattle.app_tokens.specs.declared.symbol.Symbol.TheVariants as symbol
 use Rattle.app_tokens.specs.declared.token.Kind.TheVariants as kind
 use Rattle.app_tokens.specs.Symbol.{symbol_of, sized_or, one_byte_symbol, two_byte_symbol}
-use Rattle.app_tokens.specs.Scan.{gap, token, is_blank, is_letter, is_digit, is_of_word, value_after, word_piece, number_piece, text_piece, text_from, is_pair, meaning_of, symbol_piece, piece_of}
+use Rattle.rx_value.specs.Names.{is_letter, is_digit, is_of_word}
+use Rattle.app_tokens.specs.Scan.{gap, token, is_blank, value_after, word_piece, number_piece, text_piece, text_from, is_pair, meaning_of, symbol_piece, piece_of}
 
 abbrev pub begins_with : (ℕ → Bool) → List ℕ → Bool
 begins_with p [] = false

@@ -3,7 +3,8 @@ use Rattle.std.proofs.Common.{◌≡◌, ℕ, zero, suc, ◌+◌, ◌-◌, ◌*�
 use Rattle.std.specs.Prelude.{take_while, IsTrue}
 use Rattle.std.proofs.lemmas.List.{drop_more}
 use Rattle.std.proofs.lemmas.List.Sums.{take_while-cons}
-use Rattle.app_tokens.specs.Scan.{value_after, is_digit, AreDigits}
+use Rattle.rx_value.specs.Names.{is_digit}
+use Rattle.app_tokens.specs.Scan.{value_after, AreDigits}
 
 -- more digits make no smaller number
 pub value_after-grows : (n : ℕ) (digits : List ℕ) → n ≤ value_after n digits

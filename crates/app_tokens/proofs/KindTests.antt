@@ -7,13 +7,10 @@ use Rattle.app_tokens.specs.declared.symbol.Symbol.{Symbol}
 use Rattle.app_tokens.specs.declared.symbol.Symbol.TheVariants as symbol
 use Rattle.app_tokens.specs.declared.token.Kind.{Kind}
 use Rattle.app_tokens.specs.declared.token.Kind.TheVariants as kind
+use Rattle.app_tokens.specs.Word.{words}
 use Rattle.app_tokens.specs.Kind.{word_code, symbol_code, same_word, same_symbol, is_word, is_symbol}
 
-every_word : List Word
-every_word = word.Budget ∷ word.Input ∷ word.Value ∷ word.Task ∷ word.Reactive ∷ word.Event ∷ word.Text ∷ word.Plot ∷ word.Observe ∷ word.On ∷ word.Priority ∷ word.IgnoreInit ∷ word.AllowNull ∷ word.WhileHidden ∷ word.Cache ∷ word.Set ∷ word.Invoke ∷ word.Update ∷ word.Freeze ∷ word.Do ∷ word.If ∷ word.Else ∷ word.True ∷ word.False ∷ word.Null ∷ word.C ∷ word.Isolate ∷ word.Req ∷ word.CancelOutput ∷ word.Stop ∷ word.Fold ∷ word.Result ∷ word.Status ∷ word.Width ∷ word.Height ∷ word.Paste0 ∷ word.Length ∷ word.Nchar ∷ word.Item ∷ word.Sum ∷ word.Min ∷ word.Max ∷ word.Seq ∷ word.IsNull ∷ word.AsInt ∷ word.Bars ∷ word.Lines ∷ word.Points ∷ []
-
-word_at : (w : Word) → slice_get every_word (word_code w) ≡ Some w
-unfolding every_word
+word_at : (w : Word) → slice_get words (word_code w) ≡ Some w
 word_at word.Budget = refl
 word_at word.Input = refl
 word_at word.Value = refl
@@ -96,7 +93,7 @@ same_code m n e = grind arith
 
 pub same_word-is : (a b : Word) → same_word a b ≡ true → a ≡ b
 same_word-is a b e =
-    let one : Some a ≡ Some b = sym (word_at a) ∙ ap (λ n. slice_get every_word n) (same_code (word_code a) (word_code b) e) ∙ word_at b in cc
+    let one : Some a ≡ Some b = sym (word_at a) ∙ ap (λ n. slice_get words n) (same_code (word_code a) (word_code b) e) ∙ word_at b in cc
 
 pub same_symbol-is : (a b : Symbol) → same_symbol a b ≡ true → a ≡ b
 same_symbol-is a b e =

@@ -13,7 +13,8 @@ use Rattle.app_tokens.specs.declared.error.TokenError.TheVariants.{BadByte}
 use Rattle.app_tokens.specs.declared.symbol.Symbol.{Symbol}
 use Rattle.app_tokens.specs.declared.token.Kind.TheVariants as kind
 use Rattle.app_tokens.specs.Symbol.{symbol_of}
-use Rattle.app_tokens.specs.Scan.{choose, is_blank, is_of_comment, is_letter, is_digit, is_of_word, value_after, word_piece, number_piece, text_from, limited, text_piece, found_symbol, symbol_piece, piece_of, tokens_from, listed, gap, token, ◌>>=◌}
+use Rattle.rx_value.specs.Names.{is_letter, is_digit, is_of_word}
+use Rattle.app_tokens.specs.Scan.{choose, is_blank, is_of_comment, value_after, word_piece, number_piece, text_from, limited, text_piece, found_symbol, symbol_piece, piece_of, tokens_from, listed, gap, token, ◌>>=◌}
 use Rattle.app_tokens.specs.Tokens.{Tokens}
 use Rattle.std.specs.Result.{IfOk}
 use Rattle.app_tokens.specs.Layout.{comment_after, StandBehind, StandIn}

@@ -6,3 +6,5 @@ pub mod Layouts
 pub mod KindTests
 pub mod Again
 pub mod Examples
+pub mod Names
+pub mod Values

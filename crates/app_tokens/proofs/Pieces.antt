@@ -13,7 +13,8 @@ use Rattle.app_tokens.specs.declared.token.Kind.TheVariants as kind
 use Rattle.app_tokens.specs.declared.error.TokenError.{TokenError}
 use Rattle.app_tokens.specs.declared.error.TokenError.TheVariants.{BadByte, OpenText, Memory}
 use Rattle.app_tokens.specs.Symbol.{symbol_of, sized_or, one_byte_symbol, two_byte_symbol, three_byte_symbol}
-use Rattle.app_tokens.specs.Scan.{choose, value_after, gap, token, limited, is_blank, is_of_comment, is_letter, is_digit, is_of_word, word_piece, number_piece, found_symbol, symbol_piece, text_piece, text_from, Refuses, cut_off, is_pair, meaning_of, piece_of, tokens_from, listed, ◌>>=◌}
+use Rattle.rx_value.specs.Names.{is_letter, is_digit, is_of_word}
+use Rattle.app_tokens.specs.Scan.{choose, value_after, gap, token, limited, is_blank, is_of_comment, word_piece, number_piece, found_symbol, symbol_piece, text_piece, text_from, Refuses, cut_off, is_pair, meaning_of, piece_of, tokens_from, listed, ◌>>=◌}
 use Rattle.app_tokens.proofs.Texts.{length-take_while, IsCharBoundary-run}
 
 -- tokens before those that come, if they come

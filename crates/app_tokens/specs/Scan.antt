@@ -3,9 +3,10 @@
 -- A file is cut from left to right. At each place stands a piece: a blank, a comment, or a token. The first place at
 -- which none can stand gives the refusal. Places are counted in bytes from 0. `whole` says whether the bytes end with
 -- the file, and not because the next byte is no UTF-8.
-use Rattle.std.specs.Prelude.{◌≡◌, ℕ, zero, suc, ◌+◌, ◌-◌, ◌*◌, Bool, true, false, not, ◌&&◌, ◌||◌, List, [], ◌∷◌, ◌++◌, length, take, take_while, Option, Some, None, Result, Ok, Err, nat_eq, nat_lt, nat_le, if◌then◌else◌, ◌==◌, EachIndex, IsTrue, slice_index}
-use Rattle.std.specs.Str.{byte}
+use Rattle.std.specs.Prelude.{◌≡◌, ℕ, zero, suc, ◌+◌, ◌-◌, ◌*◌, Bool, true, false, not, ◌||◌, List, [], ◌∷◌, ◌++◌, length, take, take_while, Option, Some, None, Result, Ok, Err, nat_eq, nat_lt, nat_le, if◌then◌else◌, ◌==◌, EachIndex, IsTrue, slice_index}
+use Rattle.std.specs.Str.{byte, IsUtf8}
 use Rattle.std.specs.Str.Lossy.{utf8_valid_len}
+use Rattle.rx_value.specs.Names.{is_digit, is_letter, is_of_word}
 use Rattle.app_tokens.specs.declared.token.Token.{Token}
 use Rattle.app_tokens.specs.declared.token.Kind.{Kind}
 use Rattle.app_tokens.specs.declared.token.Kind.TheVariants as kind
@@ -35,18 +36,6 @@ is_blank b = nat_eq b 32 || nat_eq b 9 || nat_eq b 10 || nat_eq b 13
 -- a byte of a comment, which ends before the next line feed
 abbrev pub is_of_comment : ℕ → Bool
 is_of_comment b = not (nat_eq b 10)
-
--- a decimal digit
-abbrev pub is_digit : ℕ → Bool
-is_digit b = nat_le (byte "0") b && nat_le b (byte "9")
-
--- an ASCII letter
-abbrev pub is_letter : ℕ → Bool
-is_letter b = nat_le (byte "a") b && nat_le b (byte "z") || nat_le (byte "A") b && nat_le b (byte "Z")
-
--- a byte of a word, behind its first letter
-abbrev pub is_of_word : ℕ → Bool
-is_of_word b = is_letter b || is_digit b || nat_eq b (byte "_")
 
 -- so many bytes that are no token
 abbrev pub gap : ℕ → Piece
@@ -152,6 +141,7 @@ tokens_from whole zero place (b ∷ bs) =
 -- these are the tokens of a text
 pub record AreCut (tokens : List Token) : Type 0 where
   pub text : List ℕ
+  pub utf8 : IsUtf8 text
   pub cut : tokens_from true 0 0 text ≡ Ok tokens
 
 -- the tokens of a file, or its first refusal: what stands before its first byte that is no UTF-8 is cut into tokens, and

@@ -1,61 +1,67 @@
 -- The reserved words.
-use Rattle.std.specs.Prelude.{ℕ, List, [], ◌∷◌, Option, Some, None, codes, bytes_eq, map, if◌then◌else◌}
+use Rattle.std.specs.Prelude.{ℕ, List, [], ◌∷◌, Option, Some, None, bytes_eq, map, if◌then◌else◌}
+use Rattle.std.specs.List.{zip}
 use Rattle.std.specs.Borrow.{Bor}
+use Rattle.rx_value.specs.Names.{reserved_words}
 use Rattle.app_tokens.specs.declared.word.Word.{Word}
 use Rattle.app_tokens.specs.declared.word.Word.TheVariants as word
 
+-- the words, in the order of their spellings
+abbrev pub words : List Word
+words =
+    word.Budget
+    ∷ word.Input
+    ∷ word.Value
+    ∷ word.Task
+    ∷ word.Reactive
+    ∷ word.Event
+    ∷ word.Text
+    ∷ word.Plot
+    ∷ word.Observe
+    ∷ word.On
+    ∷ word.Priority
+    ∷ word.IgnoreInit
+    ∷ word.AllowNull
+    ∷ word.WhileHidden
+    ∷ word.Cache
+    ∷ word.Set
+    ∷ word.Invoke
+    ∷ word.Update
+    ∷ word.Freeze
+    ∷ word.Do
+    ∷ word.If
+    ∷ word.Else
+    ∷ word.True
+    ∷ word.False
+    ∷ word.Null
+    ∷ word.C
+    ∷ word.Isolate
+    ∷ word.Req
+    ∷ word.CancelOutput
+    ∷ word.Stop
+    ∷ word.Fold
+    ∷ word.Result
+    ∷ word.Status
+    ∷ word.Width
+    ∷ word.Height
+    ∷ word.Paste0
+    ∷ word.Length
+    ∷ word.Nchar
+    ∷ word.Item
+    ∷ word.Sum
+    ∷ word.Min
+    ∷ word.Max
+    ∷ word.Seq
+    ∷ word.IsNull
+    ∷ word.AsInt
+    ∷ word.Bars
+    ∷ word.Lines
+    ∷ word.Points
+    ∷ []
+
 -- each reserved word with its spelling
 abbrev pub reserved : List (List ℕ × Word)
-reserved =
-    (codes "budget", word.Budget)
-    ∷ (codes "input", word.Input)
-    ∷ (codes "value", word.Value)
-    ∷ (codes "task", word.Task)
-    ∷ (codes "reactive", word.Reactive)
-    ∷ (codes "event", word.Event)
-    ∷ (codes "text", word.Text)
-    ∷ (codes "plot", word.Plot)
-    ∷ (codes "observe", word.Observe)
-    ∷ (codes "on", word.On)
-    ∷ (codes "priority", word.Priority)
-    ∷ (codes "ignoreInit", word.IgnoreInit)
-    ∷ (codes "allowNull", word.AllowNull)
-    ∷ (codes "whileHidden", word.WhileHidden)
-    ∷ (codes "cache", word.Cache)
-    ∷ (codes "set", word.Set)
-    ∷ (codes "invoke", word.Invoke)
-    ∷ (codes "update", word.Update)
-    ∷ (codes "freeze", word.Freeze)
-    ∷ (codes "do", word.Do)
-    ∷ (codes "if", word.If)
-    ∷ (codes "else", word.Else)
-    ∷ (codes "TRUE", word.True)
-    ∷ (codes "FALSE", word.False)
-    ∷ (codes "NULL", word.Null)
-    ∷ (codes "c", word.C)
-    ∷ (codes "isolate", word.Isolate)
-    ∷ (codes "req", word.Req)
-    ∷ (codes "cancelOutput", word.CancelOutput)
-    ∷ (codes "stop", word.Stop)
-    ∷ (codes "fold", word.Fold)
-    ∷ (codes "result", word.Result)
-    ∷ (codes "status", word.Status)
-    ∷ (codes "width", word.Width)
-    ∷ (codes "height", word.Height)
-    ∷ (codes "paste0", word.Paste0)
-    ∷ (codes "length", word.Length)
-    ∷ (codes "nchar", word.Nchar)
-    ∷ (codes "item", word.Item)
-    ∷ (codes "sum", word.Sum)
-    ∷ (codes "min", word.Min)
-    ∷ (codes "max", word.Max)
-    ∷ (codes "seq", word.Seq)
-    ∷ (codes "is_null", word.IsNull)
-    ∷ (codes "as_int", word.AsInt)
-    ∷ (codes "bars", word.Bars)
-    ∷ (codes "lines", word.Lines)
-    ∷ (codes "points", word.Points)
-    ∷ []
+reserved = zip reserved_words words
 
 -- the first word of a table that is spelled so
 abbrev pub word_in : List (List ℕ × Word) → List ℕ → Option Word

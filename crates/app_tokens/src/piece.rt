@@ -1,7 +1,8 @@
 //! What stands at one place of a file.
 
 ghost use Rattle.std.specs.Prelude.{◌≡◌, ◌<◌, ◌≤◌, ◌+◌, ◌^◌, length, drop, take_while, slice_index, MatchOption};
-ghost use Rattle.app_tokens.specs.Scan.{gap, token, is_blank, is_letter, is_digit, is_of_word, is_of_comment, value_after, number_piece, word_piece, symbol_piece, piece_of, AreDigits, Answers};
+ghost use Rattle.rx_value.specs.Names.{is_letter, is_digit, is_of_word};
+ghost use Rattle.app_tokens.specs.Scan.{gap, token, is_blank, is_of_comment, value_after, number_piece, word_piece, symbol_piece, piece_of, AreDigits, Answers};
 
 use crate::error::TokenError;
 use crate::symbol::first_symbol;

@@ -1,10 +1,11 @@
 -- Whether a draft fits does not rest on its places.
 use Rattle.std.proofs.Common.{◌≡◌, ℕ, zero, suc, Bool, List, [], ◌∷◌, map, refl, sym, ◌∙◌, ap}
 use Rattle.std.specs.List.{list_all}
+use Rattle.app_tree.specs.declared.draft_term.Name.{Name}
 use Rattle.app_tree.specs.DraftTree as draft
 use Rattle.app_tree.specs.DraftTree.{DraftTree, DraftTrees, DraftDeed, WrittenDeed, DraftAct, DraftActs, WrittenBody, WrittenOutput, WrittenForm, WrittenItem, DraftShape}
-use Rattle.app_tree.specs.Fits.{hold_of, operators, count, deeper, whole_in, term_fits, terms_fit, deed_fits, write_fits, act_fits, acts_fit, body_fits, output_fits, form_fits, item_fits, fits}
-use Rattle.app_tree.specs.Unplaced.{unplaced_tree, unplaced_trees, unplaced_deed, unplaced_written, unplaced_act, unplaced_acts, unplaced_body, unplaced_output, unplaced_form, unplaced_item, unplaced}
+use Rattle.app_tree.specs.Fits.{name_fits, hold_of, operators, count, deeper, whole_in, term_fits, terms_fit, deed_fits, write_fits, act_fits, acts_fit, body_fits, output_fits, form_fits, item_fits, fits}
+use Rattle.app_tree.specs.Unplaced.{unplaced_of, unplaced_tree, unplaced_trees, unplaced_deed, unplaced_written, unplaced_act, unplaced_acts, unplaced_body, unplaced_output, unplaced_form, unplaced_item, unplaced}
 
 hold_same : (t : DraftTree) → hold_of (unplaced_tree t) ≡ hold_of t
 hold_same (draft.constant x) = refl
@@ -102,10 +103,14 @@ body_same body = rw (writes_same body.writes, part_same body.term 64) refl
 output_same : (shown : WrittenOutput) → output_fits (unplaced_output shown) ≡ output_fits shown
 output_same shown = rw (all_same shown.keys 64, body_same shown.body) refl
 
+names_same : (ns : List Name) → list_all name_fits (map unplaced_of ns) ≡ list_all name_fits ns
+names_same [] = refl
+names_same (n ∷ more) = rw (names_same more) refl
+
 form_same : (f : WrittenForm) → form_fits (unplaced_form f) ≡ form_fits f
 form_same (draft.input start) = refl
 form_same (draft.value start) = refl
-form_same (draft.task parameters body) = part_same body 64
+form_same (draft.task parameters body) = rw (names_same parameters, part_same body 64) refl
 form_same (draft.reactive keys body) = rw (all_same keys 64, body_same body) refl
 form_same (draft.event flags e body) = rw (part_same e 64, body_same body) refl
 form_same (draft.text shown) = output_same shown

@@ -2,3 +2,4 @@ pub mod Numbers
 pub mod Places
 pub mod Naming
 pub mod Fitting
+pub mod FitsWorked

@@ -1,11 +1,13 @@
--- Worked examples of cover: what keys cover, and what a covered body comes to.
-use Rattle.std.specs.Prelude.{◌≡◌, true, false, pos, [], ◌∷◌, codes}
+-- Worked examples of cached readers: what keys cover, what a covered body comes to, and what keys come to.
+use Rattle.std.specs.Prelude.{◌≡◌, true, false, pos, [], ◌∷◌, None, Ok, Err, codes}
 use Rattle.rx_value.specs.declared.operator.BinOp.TheVariants as op
-use Rattle.rx_value.specs.declared.value.Value.TheVariants.{Bool as Truth, Int}
-use Rattle.rx_value.specs.declared.outcome.Outcome.TheVariants.{Val}
+use Rattle.rx_value.specs.declared.value.Value.TheVariants.{Bool as Truth, Int, Text}
+use Rattle.rx_value.specs.declared.outcome.Outcome.TheVariants.{Val, Fail}
 use Rattle.app_tree.specs.declared.term.Operator.TheVariants.{Strict}
 use Rattle.app_tree.specs.declared.term.Read.TheVariants as read
-use Rattle.app_tree.specs.Tree.{Tree, Trees, no_trees, tree, get, constant, group, isolate, binary, choice, input, reactive, text, Shape}
+use Rattle.app_tree.specs.Tree.{Tree, Trees, no_trees, tree, get, constant, group, isolate, stop, binary, choice, input, reactive, text, Shape}
+use Rattle.app_tree.specs.Evaluate.{Answers}
+use Rattle.app_tree.specs.Keys.{keys_result}
 use Rattle.app_tree.specs.Cover.{is_covered, keyed_outcome}
 
 -- three inputs
@@ -58,3 +60,16 @@ KeyInBrackets = is_covered (with_output (tree (group b) no_trees) b) 1 ≡ false
 -- 3 and 4 in the places of b and d
 abbrev pub OutcomeByKeys : Type 0
 OutcomeByKeys = keyed_outcome (with_output (tree b (tree d no_trees)) e) 1 (Int (pos 3) ∷ Int (pos 4) ∷ []) ≡ Val (Int (pos 7))
+
+-- ---- keys
+
+-- each input is 2
+abbrev pub all_two : Answers
+all_two = record { read = λ r. Val (Int (pos 2)); site = λ site. None }
+
+abbrev pub ValuesOfKeys : Type 0
+ValuesOfKeys = keys_result (tree a (tree (constant (Int (pos 3))) no_trees)) all_two ≡ Ok (Int (pos 2) ∷ Int (pos 3) ∷ [])
+
+-- the second key fails, and the third one isn't evaluated
+abbrev pub FirstFailure : Type 0
+FirstFailure = keys_result (tree a (tree (stop (constant (Text (codes "first")))) (tree (stop (constant (Text (codes "second")))) no_trees))) all_two ≡ Err (Fail (codes "first"))

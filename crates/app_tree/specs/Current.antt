@@ -37,14 +37,14 @@ status_outcome (Plain x) = o.Stop
 status_outcome (Frozen x) = o.Stop
 
 -- a task that was never started stops silently, and one that runs tells that it runs
-abbrev pub task_outcome : TaskView → Outcome
-task_outcome view.Initial = o.Stop
-task_outcome view.Running = o.Running
-task_outcome (view.Success x) = o.Val x
-task_outcome (view.Error outcome) = outcome
+abbrev pub outcome_of_view : TaskView → Outcome
+outcome_of_view view.Initial = o.Stop
+outcome_of_view view.Running = o.Running
+outcome_of_view (view.Success x) = o.Val x
+outcome_of_view (view.Error outcome) = outcome
 
 abbrev pub result_outcome : SourceValue → Outcome
-result_outcome (Task seen) = task_outcome seen
+result_outcome (Task seen) = outcome_of_view seen
 result_outcome (Plain x) = o.Stop
 result_outcome (Frozen x) = o.Stop
 

@@ -25,19 +25,19 @@ pub record Answers : Type 0 where
   pub read : Read → Outcome
   pub site : ℕ → Option Outcome
 
--- one thing that an evaluation asks: a read, a site that is answered, and where a site that is evaluated begins and ends
-pub data Asked : Type 0 where
-  reads : Read → Asked
-  given : ℕ → Asked
-  enters : ℕ → Asked
-  leaves : ℕ → Outcome → Asked
+-- an entry of an evaluation's trace, which says what is asked: a read, a site that is answered, and where a site that is
+-- evaluated begins, and ends with its outcome
+pub data TraceEntry : Type 0 where
+  reads : Read → TraceEntry
+  given : ℕ → TraceEntry
+  enters : ℕ → TraceEntry
+  leaves : ℕ → Outcome → TraceEntry
 
--- the outcome; all that was asked, in order; of that the reads outside of every site; and each site that was evaluated, with its outcome
+-- the outcome; the trace of all that was asked, in order; and of that the reads outside of every site
 pub record Evaluation : Type 0 where
   pub outcome : Outcome
-  pub asked : List Asked
+  pub asked : List TraceEntry
   pub outside : List Read
-  pub sites : List (ℕ × Outcome)
 
 -- by the answers and the values of the variables
 abbrev pub Meaning : Type 0
@@ -45,14 +45,14 @@ Meaning = Answers → List Value → Evaluation
 
 -- without asking anything
 abbrev pub plain : Outcome → Evaluation
-plain outcome = record { outcome = outcome; asked = []; outside = []; sites = [] }
+plain outcome = record { outcome = outcome; asked = []; outside = [] }
 
 abbrev pub read_of : Answers → Read → Evaluation
-read_of answers r = record { outcome = answers.read r; asked = reads r ∷ []; outside = r ∷ []; sites = [] }
+read_of answers r = record { outcome = answers.read r; asked = reads r ∷ []; outside = r ∷ [] }
 
 -- one evaluation, and then another, which gives the outcome
 abbrev pub after : Evaluation → Evaluation → Evaluation
-after e next = record { outcome = next.outcome; asked = e.asked ++ next.asked; outside = e.outside ++ next.outside; sites = e.sites ++ next.sites }
+after e next = record { outcome = next.outcome; asked = e.asked ++ next.asked; outside = e.outside ++ next.outside }
 
 -- goes on with a value, and ends at a failure
 abbrev pub then_by : Evaluation → Outcome → (Value → Evaluation) → Evaluation
@@ -119,11 +119,11 @@ over_list step start None = plain (failed WrongKind)
 
 -- a site that is answered asks nothing more; one that is evaluated leaves its outcome, and none of its reads counts
 abbrev pub at_site : ℕ → Meaning → Answers → List Value → Option Outcome → Evaluation
-at_site site m answers args (Some outcome) = record { outcome = outcome; asked = given site ∷ []; outside = []; sites = [] }
+at_site site m answers args (Some outcome) = record { outcome = outcome; asked = given site ∷ []; outside = [] }
 at_site site m answers args None = left_with (m answers args)
   where
     left_with : Evaluation → Evaluation
-    left_with e = record { outcome = e.outcome; asked = enters site ∷ (e.asked ++ leaves site e.outcome ∷ []); outside = []; sites = e.sites ++ (site, e.outcome) ∷ [] }
+    left_with e = record { outcome = e.outcome; asked = enters site ∷ (e.asked ++ leaves site e.outcome ∷ []); outside = [] }
 
 -- ---- terms
 

@@ -1,17 +1,22 @@
--- Which drafts a text can give: the limits of an app, and where a term has to stand in parentheses.
+-- Which drafts a text can give, but for the spelling of item names: the limits of an app, how the names of parameters and
+-- variables are spelled, and where a term has to stand in parentheses.
 --
--- Names are not looked at here, nor places: a draft that fits may still be refused by the checks of names.
+-- Places are not looked at here, nor the names of items, where they are declared and where they are used. A draft that fits
+-- may still be refused by the checks of names.
 use Rattle.std.specs.Prelude.{ℕ, zero, suc, ◌+◌, ℤ, pos, negsuc, Bool, true, false, ◌&&◌, ◌||◌, List, length, Option, Some, nat_eq, nat_le, nat_lt}
 use Rattle.std.specs.List.{list_all}
+use Rattle.std.specs.Str.{is_utf8}
 use Rattle.rx_value.specs.declared.value.Value.{Value}
 use Rattle.rx_value.specs.declared.value.Value.TheVariants as v
 use Rattle.rx_value.specs.declared.operator.BinOp.{BinOp}
 use Rattle.rx_value.specs.declared.operator.BinOp.TheVariants as bin
 use Rattle.rx_value.specs.Functions.{argument_count, is_count}
+use Rattle.rx_value.specs.Names.{is_name}
 use Rattle.app_tree.specs.declared.term.Operator.{Operator}
 use Rattle.app_tree.specs.declared.term.Operator.TheVariants as operator
 use Rattle.app_tree.specs.declared.term.Function.{Function}
 use Rattle.app_tree.specs.declared.term.Function.TheVariants as function
+use Rattle.app_tree.specs.declared.draft_term.Name.{Name}
 use Rattle.app_tree.specs.DraftTree.{DraftTree, constant, group, read, variable, isolate, stop, require, fold, unary, binary, choice, call, DraftTrees, no_trees, tree, DraftDeed, set, invoke, update, freeze, WrittenDeed, DraftAct, write, perform, branch, branch_else, DraftActs, no_acts, act, WrittenBody, WrittenOutput, WrittenForm, input, value, task, reactive, event, text, plot, observe, on, WrittenItem, DraftShape}
 
 -- ---- numbers and texts
@@ -29,9 +34,9 @@ is_number (negsuc n) = is_natural (suc n)
 abbrev pub is_text_byte : ℕ → Bool
 is_text_byte b = nat_le 32 b || nat_eq b 10
 
--- at most 65,536 of these bytes
+-- at most 65,536 of these bytes, which are UTF-8
 abbrev pub is_text : List ℕ → Bool
-is_text bytes = nat_le (length bytes) 65536 && list_all is_text_byte bytes
+is_text bytes = nat_le (length bytes) 65536 && list_all is_text_byte bytes && is_utf8 bytes
 
 -- at most 1,000 numbers
 abbrev pub are_numbers : List ℤ → Bool
@@ -53,6 +58,11 @@ literal_fits (v.Int (pos n)) = is_natural n
 literal_fits (v.Int (negsuc n)) = false
 literal_fits (v.Text bytes) = is_text bytes
 literal_fits (v.Ints numbers) = false
+
+-- ---- names of parameters and variables
+
+abbrev pub name_fits : Name → Bool
+name_fits n = is_name n.text
 
 -- ---- how closely terms hold together
 
@@ -129,13 +139,14 @@ abbrev mutual
   term_fits (constant k) levels = literal_fits k
   term_fits (group t) levels = whole_in t levels (λ below. term_fits t below)
   term_fits (read form place name) levels = true
-  term_fits (variable name) levels = true
+  term_fits (variable name) levels = name_fits name
   term_fits (isolate place t) levels = whole_in t levels (λ below. term_fits t below)
   term_fits (stop t) levels = whole_in t levels (λ below. term_fits t below)
   term_fits (require t cancels) levels = whole_in t levels (λ below. term_fits t below)
   term_fits (fold place list start accumulator element body) levels =
       whole_in list levels (λ below. term_fits list below)
       && whole_in start levels (λ below. term_fits start below)
+      && name_fits accumulator && name_fits element
       && whole_in body levels (λ below. term_fits body below)
   term_fits (unary op t) levels = is_signed t && deeper levels (λ below. term_fits t below)
   term_fits (binary op left right) levels = are_operands op left right && term_fits left levels && term_fits right levels
@@ -196,7 +207,7 @@ output_fits output = is_number output.priority && all_fit output.keys && body_fi
 abbrev pub form_fits : WrittenForm → Bool
 form_fits (input start) = constant_fits start
 form_fits (value start) = constant_fits start
-form_fits (task parameters body) = whole_fits body
+form_fits (task parameters body) = list_all name_fits parameters && whole_fits body
 form_fits (reactive keys body) = all_fit keys && body_fits body
 form_fits (event flags e body) = whole_fits e && body_fits body
 form_fits (text output) = output_fits output
@@ -211,6 +222,6 @@ item_fits item = form_fits item.form
 abbrev pub is_budget : ℕ → Bool
 is_budget n = nat_le 1 n && nat_le n 1000000
 
--- a text can give this draft
+-- a text can give this draft, but for the spelling of item names
 abbrev pub fits : DraftShape → Bool
 fits draft = is_budget draft.budget && list_all item_fits draft.items

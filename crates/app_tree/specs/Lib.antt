@@ -4,6 +4,13 @@ pub mod View
 pub mod Numbering
 pub mod Current
 pub mod Evaluate
+pub mod Trace
+pub mod Wanted
+pub mod WantedExamples
+pub mod Keys
+pub mod Tasks
+pub mod ObserverTerms
+pub mod TermsExample
 pub mod Fresh
 pub mod Cover
 pub mod CoverExamples
@@ -15,4 +22,5 @@ pub mod Faults
 pub mod Named
 pub mod Unplaced
 pub mod Fits
+pub mod FitsExamples
 pub mod WellFormed

@@ -49,6 +49,10 @@ is_observer _ = false
 abbrev pub is_reader : Node → Bool
 is_reader i = is_expression i || is_output i || is_observer i
 
+-- it comes to something when it is evaluated; an observer does not
+abbrev pub is_evaluated : Node → Bool
+is_evaluated i = is_expression i || is_output i
+
 -- ---- readers
 
 -- the readers, by number: in the order of the text
@@ -103,7 +107,3 @@ input_number name items = number_from is_input is_input 0 name items
 -- the reader number of the output of this name
 abbrev pub output_number : List ℕ → List Node → Option ℕ
 output_number name items = number_from is_reader is_output 0 name items
-
--- the place among the items of the item of this name
-abbrev pub item_number : List ℕ → List Node → Option ℕ
-item_number name items = number_from (λ i. true) (λ i. true) 0 name items

@@ -1,4 +1,5 @@
--- Which apps there are: those that a draft stands for, which a text can give and no check refuses.
+-- Which apps there are: those that a draft stands for, which a text can give, but for the spelling of item names, and which
+-- no check refuses.
 use Rattle.std.specs.Prelude.{◌≡◌, true, []}
 use Rattle.app_tree.specs.Tree.{Shape}
 use Rattle.app_tree.specs.DraftTree.{DraftShape}

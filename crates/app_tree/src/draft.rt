@@ -6,7 +6,8 @@ use crate::draft_item::DraftItems;
 use std::marker::Model;
 
 /// An app file as it is written: its flush budget and its items, with names in place of numbers. It is
-/// within the limits of app files, and its terms are grouped as a text can group them.
+/// within the limits of app files, its terms are grouped as a text can group them, and its parameters and
+/// variables are named by words that aren't reserved. Its items may have any names.
 #[derive(Debug, Drop)]
 pub struct Draft {
     budget: u32,

@@ -29,7 +29,7 @@ pub use draft_item::{
     DraftStatement, DraftWrite, DraftWrites,
 };
 pub use draft_term::{DraftTerm, DraftTerms, Name, Names, ReadForm};
-pub use examples::cover_examples;
+pub use examples::{cover_examples, fits_examples, term_examples, wanted_examples};
 pub use item::{Flags, Item, Items, Output, Sort};
 pub use refusal::{Fault, Refusal};
 pub use statement::{Block, Statement};

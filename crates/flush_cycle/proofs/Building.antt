@@ -8,7 +8,7 @@ use Rattle.app_tree.specs.declared.term.Term.{Term}
 use Rattle.app_tree.specs.View.{trees_of_terms}
 use Rattle.app_tree.specs.Tree.{Tree, constant, group, get, variable, isolate, stop, require, fold, unary, binary, choice, call, Trees, no_trees, tree, Shown, Node, input, value, task, reactive, event, text, plot, observe, on}
 use Rattle.app_tree.specs.Numbering.{name_of, is_reader}
-use Rattle.session_model.specs.AskedLaws.{Every}
+use Rattle.app_tree.specs.Trace.{Every}
 use Rattle.session_model.specs.State.{first_boards}
 use Rattle.session_model.specs.Flush.{priority_of}
 use Rattle.flush_cycle.specs.Built.{is_uncached, is_plain, input_read, shown_input, plain_shown, is_built, unbuilt_from, first_unbuilt, input_of_output}

@@ -1,5 +1,5 @@
 -- A flush that has come so far: what it has left to do gives what the whole flush gives.
-use Rattle.std.proofs.Common.{◌≡◌, ℕ, zero, suc, ◌-◌, ◌<◌, true, false, List, [], ◌∷◌, ◌++◌, length, take, drop, filter, Some, None, refl, sym, ap, ◌∙◌, subst, arith, zero-add}
+use Rattle.std.proofs.Common.{◌≡◌, ℕ, zero, suc, ◌-◌, ◌<◌, Bool, true, false, List, [], ◌∷◌, ◌++◌, length, take, drop, filter, Some, None, refl, sym, ap, ◌∙◌, subst, arith, zero-add, append-nil, append_assoc}
 use Rattle.std.specs.Prelude.{◌+◌, not, slice_get, slice_set, unwrap_or, option_map}
 use Rattle.std.proofs.lemmas.List.{length-set, take-set}
 use Rattle.std.proofs.lemmas.List.Elements.{filter-append}
@@ -14,21 +14,36 @@ use Rattle.app_tree.specs.Fresh.{IsolatedOutcomes, kept_sites, answer_to, known_
 use Rattle.shiny_json.specs.declared.batch.BatchOutput.{BatchOutput}
 use Rattle.session_model.specs.declared.state.ReaderState.{ReaderState}
 use Rattle.session_model.specs.State.{SessionState, first_reader, isolated_of, has_run, reader_state, with_sources}
-use Rattle.session_model.specs.Run.{Ran, forgotten, read_node, finished, visit_expression, run_reader}
-use Rattle.session_model.specs.Flush.{Waiting, Run, Made, done, budget_spent, output_made, is_observer_at, make_by, make_run, failure_by, failure_of, after_failure, after_run, flushed_to, flush_from, flush, flush_step, flush_end, waiting_from, next_waiting}
+use Rattle.session_model.specs.Run.{ReaderRun, at_beginning, forgotten, read_node, finished, visit_expression, run_reader}
+use Rattle.session_model.specs.Flush.{Waiting, Run, RunResult, FlushEnd, done, budget_spent, Flushed, output_made, is_observer_at, make_by, make_run, failure_by, failure_of, no_runs, and_then, unless_failed, after_run, flush_step, end_without_budget, flush_within, flush, waiting_from, next_waiting}
 use Rattle.session_model.specs.Texts.{run_texts_of, output_of_run}
 use Rattle.flush_cycle.specs.State.{state_of}
-use Rattle.flush_cycle.specs.Passed.{IsPassed, WaitsAt, waits_at, IsShown, AreShown, Passes, ran_reader, shown_output, shown_outcome}
+use Rattle.flush_cycle.specs.Passed.{IsPassed, WaitsAt, waits_at, IsShown, AreShown, Passes, end_of, ran_reader, shown_output, shown_outcome}
 use Rattle.flush_cycle.specs.Built.{plain_shown, first_unbuilt}
 use Rattle.flush_cycle.proofs.Building.{no_priority_behind}
 use Rattle.flush_cycle.proofs.Passing.{split_at, waiting-found, none_before}
+
+-- a flush behind these runs, which ran so many bodies
+abbrev pub behind : List Run → ℕ → Flushed → Flushed
+behind runs bodies rest = record { state = rest.state; runs = runs ++ rest.runs; bodies = bodies + rest.bodies; end = rest.end }
 
 pub record Going (app : Shape) (values : List SourceValue) (start readers : List ReaderState) (left : ℕ) (outputs : List BatchOutput) (place number : ℕ) : Type 0 where
   pub passed : IsPassed app.items readers place number
   pub runs : List Run
   pub bodies : ℕ
   pub shown : AreShown app runs outputs
-  pub rest : flush_from app left (state_of values readers) runs bodies ≡ flush app (state_of values start)
+  pub rest : behind runs bodies (flush_within app left (state_of values readers)) ≡ flush app (state_of values start)
+
+-- behind no run a flush is as it is
+behind_nothing : (rest : Flushed) → behind [] 0 rest ≡ rest
+behind_nothing rest = λ i. record { state = rest.state; runs = rest.runs; bodies = zero-add rest.bodies i; end = rest.end }
+
+-- a run in front of a flush that stands behind others is one more of these
+behind_more : (runs : List Run) (bodies : ℕ) (first : RunResult) (rest : Flushed) → behind runs bodies (and_then first rest) ≡ behind (runs ++ first.run ∷ []) (bodies + first.bodies) rest
+behind_more runs bodies first rest =
+    let all : runs ++ first.run ∷ rest.runs ≡ (runs ++ first.run ∷ []) ++ rest.runs = sym (append_assoc runs (first.run ∷ []) rest.runs) in
+    let count : bodies + (first.bodies + rest.bodies) ≡ bodies + first.bodies + rest.bodies = omega arith in
+    λ i. record { state = rest.state; runs = all i; bodies = count i; end = rest.end }
 
 -- nothing was run yet
 pub going_first : (app : Shape) (values : List SourceValue) (readers : List ReaderState) (left : ℕ) (outputs : List BatchOutput) → left ≡ app.budget → outputs ≡ [] → Going app values readers readers left outputs 0 0
@@ -37,7 +52,7 @@ going_first app values readers left outputs budget none = record {
   runs = [];
   bodies = 0;
   shown = subst (AreShown app []) (sym none) tt;
-  rest = ap (λ n. flush_from app n (state_of values readers) [] 0) budget;
+  rest = behind_nothing (flush_within app left (state_of values readers)) ∙ ap (λ n. flush_within app n (state_of values readers)) budget;
 }
 
 -- ---- one element of a list, changed by a function
@@ -79,7 +94,7 @@ evaluation_is : (app : Shape) (values : List SourceValue) (isolated : IsolatedOu
 evaluation_is app values isolated n name s e = ap (λ i. evaluate_node i (answers_at app values isolated n)) e
 
 -- a run of an output of today's form runs one body and visits nothing
-abbrev ran_plainly : Shape → ℕ → SessionState → Ran
+abbrev ran_plainly : Shape → ℕ → SessionState → ReaderRun
 ran_plainly app n state = record {
   state = with_sources n (sources_read app state.values (isolated_of state) n) state;
   outcome = fresh_outcome app state.values (isolated_of state) n;
@@ -95,10 +110,9 @@ state_is : (app : Shape) (values : List SourceValue) (readers : List ReaderState
 state_is app values readers n name s e lt =
     let isolated = isolated_of (forgotten n (state_of values readers)) in
     let seen = fresh_evaluation app values isolated n in
-    let forget : ReaderState → ReaderState = λ r. record r { isolated = [] } in
     let depend : ReaderState → ReaderState = λ r. record r { dependencies = Some (record { sources = sources_of app values isolated seen.outside; changed = false }) } in
     let keep : ReaderState → ReaderState = λ r. record r { last = Some seen.outcome } in
-    ap (state_of values) (update-thrice n first_reader forget depend keep readers lt
+    ap (state_of values) (update-thrice n first_reader at_beginning depend keep readers lt
     ∙ ap (λ (e' : Evaluation). slice_set readers n (reader_after (sources_of app values isolated e'.outside) e'.outcome (unwrap_or (slice_get readers n) first_reader))) (evaluation_is app values isolated n name s e))
 
 outcome_is : (app : Shape) (values : List SourceValue) (readers : List ReaderState) (n : ℕ) (name : List ℕ) (s : ℕ) → reader app n ≡ Some (text name (plain_shown s))
@@ -124,26 +138,34 @@ no_failure app n outcome name s e = ap (λ i. failure_by (is_observer_at i) outc
 
 -- ---- the end
 
-flush_done : (app : Shape) (left : ℕ) (state : SessionState) (runs : List Run) (bodies : ℕ) → next_waiting app state ≡ None → flush_from app left state runs bodies ≡ flushed_to done state runs bodies
-flush_done app zero state runs bodies e = ap (λ o. flushed_to (flush_end o) state runs bodies) e
-flush_done app (suc left) state runs bodies e = ap (flush_step app (flush_from app left) state runs bodies) e
+flush_done : (app : Shape) (left : ℕ) (state : SessionState) → next_waiting app state ≡ None → flush_within app left state ≡ no_runs done state
+flush_done app zero state e = ap (λ o. no_runs (end_without_budget o) state) e
+flush_done app (suc left) state e = ap (flush_step app (flush_within app left) state) e
+
+-- behind the runs so far comes none, and they are those of these outputs
+passes_so_far : (app : Shape) (values : List SourceValue) (start readers : List ReaderState) (left : ℕ) (outputs : List BatchOutput) (place number : ℕ) (end : FlushEnd) (spent : Bool)
+    → Going app values start readers left outputs place number → flush_within app left (state_of values readers) ≡ no_runs end (state_of values readers) → end ≡ end_of spent
+    → Passes app (flush app (state_of values start)) (state_of values readers) outputs spent
+passes_so_far app values start readers left outputs place number end spent g last ends =
+    let state = state_of values readers in
+    let whole : behind g.runs g.bodies (no_runs end state) ≡ flush app (state_of values start) = sym (ap (behind g.runs g.bodies) last) ∙ g.rest in
+    let shown : AreShown app (g.runs ++ []) outputs = subst (λ runs. AreShown app runs outputs) (sym (append-nil g.runs)) g.shown in
+    subst (λ f. Passes app f state outputs spent) whole (record { state = refl; shown = shown; end = ends })
 
 -- nothing waits any more
 pub all_done : (app : Shape) (values : List SourceValue) (start readers : List ReaderState) (left : ℕ) (outputs : List BatchOutput) (place number : ℕ) → Going app values start readers left outputs place number
     → waiting_from 0 (filter is_reader app.items) readers ≡ None → Passes app (flush app (state_of values start)) (state_of values readers) outputs false
 all_done app values start readers left outputs place number g e =
     let none : next_waiting app (state_of values readers) ≡ None = ap (option_map (λ (w : Waiting). w.number)) e in
-    let last = sym g.rest ∙ flush_done app left (state_of values readers) g.runs g.bodies none in
-    subst (λ f. Passes app f (state_of values readers) outputs false) (sym last) (record { state = refl; shown = g.shown; end = refl })
+    passes_so_far app values start readers left outputs place number done false g (flush_done app left (state_of values readers) none) refl
 
 -- one still waits, and nothing is left of the budget
 pub all_spent : (app : Shape) (values : List SourceValue) (start readers : List ReaderState) (left : ℕ) (outputs : List BatchOutput) (place number n : ℕ) → Going app values start readers left outputs place number
     → left ≡ 0 → next_waiting app (state_of values readers) ≡ Some n → Passes app (flush app (state_of values start)) (state_of values readers) outputs true
 all_spent app values start readers left outputs place number n g none e =
     let state = state_of values readers in
-    let last : flush app (state_of values start) ≡ flushed_to budget_spent state g.runs g.bodies =
-    sym g.rest ∙ ap (λ k. flush_from app k state g.runs g.bodies) none ∙ ap (λ o. flushed_to (flush_end o) state g.runs g.bodies) e in
-    subst (λ f. Passes app f state outputs true) (sym last) (record { state = refl; shown = g.shown; end = refl })
+    let last : flush_within app left state ≡ no_runs budget_spent state = ap (λ k. flush_within app k state) none ∙ ap (λ o. no_runs (end_without_budget o) state) e in
+    passes_so_far app values start readers left outputs place number budget_spent true g last refl
 
 -- ---- one more run
 
@@ -185,14 +207,15 @@ is_shown app n name s values e = record {
   silent = refl;
 }
 
-flush_more : (app : Shape) (left n : ℕ) (state : SessionState) (runs : List Run) (bodies : ℕ) (made : Made) → 0 < left → next_waiting app state ≡ Some n → make_run app n state ≡ made → failure_of app made.run ≡ None
-    → flush_from app left state runs bodies ≡ flush_from app (left - 1) made.state (runs ++ made.run ∷ []) (bodies + made.bodies)
-flush_more app zero n state runs bodies made h e m none = absurd (omega (arith, h))
-flush_more app (suc left) n state runs bodies made h e m none =
+-- the run of the next that waits stands in front of what is left
+flush_more : (app : Shape) (left n : ℕ) (state : SessionState) (made : RunResult) → 0 < left → next_waiting app state ≡ Some n → make_run app n state ≡ made → failure_of app made.run ≡ None
+    → flush_within app left state ≡ and_then made (flush_within app (left - 1) made.state)
+flush_more app zero n state made h e m none = absurd (omega (arith, h))
+flush_more app (suc left) n state made h e m none =
     let same : suc left - 1 ≡ left = omega arith in
-    ap (flush_step app (flush_from app left) state runs bodies) e ∙ ap (after_run app (flush_from app left) runs bodies) m
-    ∙ ap (λ why. after_failure why (flush_from app left) made.state (runs ++ made.run ∷ []) (bodies + made.bodies)) none
-    ∙ sym (ap (λ k. flush_from app k made.state (runs ++ made.run ∷ []) (bodies + made.bodies)) same)
+    ap (flush_step app (flush_within app left) state) e ∙ ap (after_run app (flush_within app left)) m
+    ∙ ap (λ why. and_then made (unless_failed why (flush_within app left) made.state)) none
+    ∙ sym (ap (λ k. and_then made (flush_within app k made.state)) same)
 
 -- the state of the reader at the place doesn't matter to those before it
 passed_with : (items : List Node) (readers : List ReaderState) (p n : ℕ) (r : ReaderState) → IsPassed items readers p n → IsPassed items (slice_set readers n r) p n
@@ -211,14 +234,16 @@ one_more app values start readers left outputs place number name s built g some 
     let after = ran_reader s values (unwrap_or (slice_get readers n) first_reader) in
     let at = reader_is app readers p n name s passed waits in
     let run = run_of n (shown_outcome s values) in
-    let made : Made = record { state = state_of values (slice_set readers n after); bodies = 1; run = run } in
+    let made : RunResult = record { state = state_of values (slice_set readers n after); bodies = 1; run = run } in
+    let one : flush_within app left state ≡ and_then made (flush_within app (left - 1) made.state) =
+    flush_more app left n state made some (next_is app values readers p n name s built passed waits) (made_is app values readers n name s at (waits_within readers n waits.waits))
+    (no_failure app n (shown_outcome s values) name s at) in
     record {
       passed = passed_with app.items readers p n after passed;
       runs = g.runs ++ run ∷ [];
       bodies = g.bodies + 1;
       shown = shown_more app g.runs outputs run (shown_output name s values) g.shown (is_shown app n name s values at);
-      rest = sym (flush_more app left n state g.runs g.bodies made some (next_is app values readers p n name s built passed waits) (made_is app values readers n name s at (waits_within readers n waits.waits))
-          (no_failure app n (shown_outcome s values) name s at)) ∙ g.rest;
+      rest = sym (behind_more g.runs g.bodies made (flush_within app (left - 1) made.state)) ∙ sym (ap (behind g.runs g.bodies) one) ∙ g.rest;
     }
 
 -- ---- the same, of lists that are equal to those

@@ -7,7 +7,7 @@ use Rattle.app_tree.specs.declared.item.Item.{Item}
 use Rattle.app_tree.specs.View.{node_of}
 use Rattle.app_tree.specs.Numbering.{is_reader}
 use Rattle.session_model.specs.declared.state.ReaderState.{ReaderState}
-use Rattle.session_model.specs.AskedLaws.{Every}
+use Rattle.app_tree.specs.Trace.{Every}
 use Rattle.session_model.specs.Flush.{Waiting, first_of, and_later, priority_of, is_waiting, waiting_from}
 use Rattle.flush_cycle.specs.Built.{plain_shown}
 use Rattle.flush_cycle.specs.Passed.{waits_at, IsPassed}

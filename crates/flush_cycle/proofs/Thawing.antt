@@ -2,6 +2,7 @@
 use Rattle.std.proofs.Common.{◌≡◌, ℕ, zero, suc, ◌+◌, Bool, true, false, List, [], ◌∷◌, ◌++◌, map, filter, Some, refl, sym, ap, subst, ◌∙◌, arith}
 use Rattle.std.specs.Prelude.{cond, slice_get, slice_set, unwrap_or}
 use Rattle.rx_value.specs.Value.{source_eq}
+use Rattle.rx_value.proofs.SameSources.{source_eq-itself}
 use Rattle.rx_value.specs.declared.value.Value.{Value}
 use Rattle.rx_value.specs.declared.value.Value.TheVariants.{Null}
 use Rattle.rx_value.specs.declared.source.SourceValue.{SourceValue}
@@ -11,11 +12,14 @@ use Rattle.app_tree.specs.Numbering.{is_output, declared_value, declared_sources
 use Rattle.app_tree.specs.Current.{value_at}
 use Rattle.session_model.specs.State.{SessionState}
 use Rattle.session_model.specs.Change.{change, changed_to, thawed, thaw_from, thaw}
-use Rattle.session_model.proofs.Expected.{equal_value_changes_nothing}
 use Rattle.session_model.specs.declared.state.ReaderState.{ReaderState}
 use Rattle.flush_cycle.specs.State.{state_of, IsThawed, AreThawed}
 
 -- ---- no source thaws
+
+-- a source that is set to the value that it has stays as it is
+change_same : (state : SessionState) (s : ℕ) (x : SourceValue) → value_at state.values s ≡ x → change s x state ≡ state
+change_same state s x h = ap (λ b. cond b state (changed_to s x state)) (ap (λ v. source_eq v x) h ∙ source_eq-itself x)
 
 abbrev IsIn : SessionState → ℕ → List SourceValue → Type 0
 IsIn state s xs = (j : ℕ) (x : SourceValue) → slice_get xs j ≡ Some x → value_at state.values (s + j) ≡ x
@@ -24,7 +28,7 @@ thaw_nothing : (xs : List SourceValue) (s : ℕ) (state : SessionState) → AreT
 thaw_nothing [] s state h at = refl
 thaw_nothing (x ∷ xs) s state h at =
     let here : value_at state.values s ≡ thawed x = ap (value_at state.values) (let e : s ≡ s + 0 = omega arith in e) ∙ at 0 x refl ∙ sym h.0 in
-    ap (thaw_from (suc s) xs) (equal_value_changes_nothing state s (thawed x) here)
+    ap (thaw_from (suc s) xs) (change_same state s (thawed x) here)
     ∙ thaw_nothing xs (suc s) state h.1 (λ j y p. ap (value_at state.values) (let e : suc s + j ≡ s + suc j = omega arith in e) ∙ at (suc j) y p)
 
 pub thaw_same : (state : SessionState) → AreThawed state.values → thaw state ≡ state

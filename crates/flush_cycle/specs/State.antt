@@ -4,7 +4,7 @@ use Rattle.rx_value.specs.declared.source.SourceValue.{SourceValue}
 use Rattle.session_model.specs.declared.state.ReaderState.{ReaderState}
 use Rattle.session_model.specs.State.{SessionState}
 use Rattle.session_model.specs.Change.{thawed}
-use Rattle.session_model.specs.AskedLaws.{Every}
+use Rattle.app_tree.specs.Trace.{Every}
 
 -- no task of today has a board
 abbrev pub state_of : List SourceValue → List ReaderState → SessionState

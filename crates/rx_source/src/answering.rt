@@ -1,5 +1,5 @@
 ghost use Rattle.std.specs.Prelude.{◌≡◌, IfOk};
-ghost use Rattle.app_tree.specs.Current.{value_at, plain_outcome, status_text, status_outcome, task_outcome, result_outcome};
+ghost use Rattle.app_tree.specs.Current.{value_at, plain_outcome, status_text, status_outcome, outcome_of_view, result_outcome};
 
 use rx_value::{Memory, Outcome, RxText, SourceValue, TaskView, Value};
 use std::alloc::Global;
@@ -37,8 +37,8 @@ fn status_outcome(alloc: Global, value: &SourceValue) -> Result<Outcome, Memory>
     }
 }
 
-fn task_outcome(alloc: Global, view: &TaskView) -> Result<Outcome, Memory>
-    ensures { IfOk result (λ outcome. outcome ≡ task_outcome view.now) }
+fn outcome_of_view(alloc: Global, view: &TaskView) -> Result<Outcome, Memory>
+    ensures { IfOk result (λ outcome. outcome ≡ outcome_of_view view.now) }
 {
     match view {
         TaskView::Initial => Ok(Outcome::Stop),
@@ -52,7 +52,7 @@ fn result_outcome(alloc: Global, value: &SourceValue) -> Result<Outcome, Memory>
     ensures { IfOk result (λ outcome. outcome ≡ result_outcome value.now) }
 {
     match value {
-        SourceValue::Task(view) => task_outcome(alloc, view),
+        SourceValue::Task(view) => outcome_of_view(alloc, view),
         SourceValue::Plain(_) => Ok(Outcome::Stop),
         SourceValue::Frozen(_) => Ok(Outcome::Stop),
     }

@@ -3,3 +3,4 @@ pub mod Division
 pub mod DecimalDigits
 pub mod Lists
 pub mod SameSources
+pub mod Sameness

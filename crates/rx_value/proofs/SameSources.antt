@@ -25,6 +25,9 @@ outcome_eq-itself o.Stop = refl
 outcome_eq-itself o.Cancel = refl
 outcome_eq-itself o.Running = refl
 
+pub outcome_eq-Decides : (a b : Outcome) → Decides (outcome_eq a b) (a ≡ b)
+outcome_eq-Decides a b = (same_outcome a b, λ e. subst (λ (c : Outcome). outcome_eq a c ≡ true) e (outcome_eq-itself a))
+
 same_view : (a b : TaskView) → view_eq a b ≡ true → a ≡ b
 same_view view.Initial view.Initial h = refl
 same_view view.Running view.Running h = refl
@@ -37,6 +40,9 @@ view_eq-itself view.Initial = refl
 view_eq-itself view.Running = refl
 view_eq-itself (view.Success a) = value_eq-itself a
 view_eq-itself (view.Error a) = outcome_eq-itself a
+
+pub view_eq-Decides : (a b : TaskView) → Decides (view_eq a b) (a ≡ b)
+view_eq-Decides a b = (same_view a b, λ e. subst (λ (c : TaskView). view_eq a c ≡ true) e (view_eq-itself a))
 
 same_source : (a b : SourceValue) → source_eq a b ≡ true → a ≡ b
 same_source (source.Plain a) (source.Plain b) h = ap source.Plain (same_value a b h)

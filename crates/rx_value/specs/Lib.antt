@@ -9,3 +9,4 @@ pub mod Truth
 pub mod Plot
 pub mod Weight
 pub mod Keys
+pub mod Names

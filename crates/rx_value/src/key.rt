@@ -1,4 +1,4 @@
-ghost use Rattle.std.specs.Prelude.{◌≡◌, IfOk, Bool};
+ghost use Rattle.std.specs.Prelude.{◌≡◌, ◌↔◌, IfOk, IsTrue, Bool};
 ghost use Rattle.std.specs.Cmp.{decided, partial_equiv_from_equiv};
 ghost use Rattle.std.specs.Hash.{same_Alike};
 ghost use Rattle.rx_value.specs.Value.{value_eq, values_eq, key_eq};
@@ -36,8 +36,10 @@ impl Key {
     }
 
     /// Whether both have the same number and the same values.
+    #[tactic(auto, using(crate::proofs::Sameness::same_keys))]
     pub fn same(&self, other: &Key) -> bool
-        ensures { result ≡ key_eq self.now other.now }
+        ensures test { result ≡ key_eq self.now other.now }
+        ensures equal { IsTrue result ↔ (self.now ≡ other.now) }
     {
         self.node == other.node && same_values(self.parts.as_slice(), other.parts.as_slice())
     }

@@ -1,4 +1,4 @@
-ghost use Rattle.std.specs.Prelude.{◌≡◌, IfOk};
+ghost use Rattle.std.specs.Prelude.{◌≡◌, ◌↔◌, IfOk, IsTrue};
 ghost use Rattle.rx_value.specs.Value.{outcome_eq};
 
 use crate::memory::Memory;
@@ -36,8 +36,10 @@ impl Outcome {
     }
 
     /// Whether both are of one kind and have the same content.
+    #[tactic(auto, using(crate::proofs::Sameness::same_outcomes))]
     pub fn same(&self, other: &Outcome) -> bool
-        ensures { result ≡ outcome_eq self.now other.now }
+        ensures test { result ≡ outcome_eq self.now other.now }
+        ensures equal { IsTrue result ↔ (self.now ≡ other.now) }
     {
         match (self, other) {
             (Outcome::Val(a), Outcome::Val(b)) => a.same(b),

@@ -1,4 +1,4 @@
-ghost use Rattle.std.specs.Prelude.{◌≡◌};
+ghost use Rattle.std.specs.Prelude.{◌≡◌, ◌↔◌, IsTrue};
 ghost use Rattle.rx_value.specs.Value.{view_eq, source_eq};
 
 use crate::outcome::Outcome;
@@ -29,8 +29,10 @@ pub enum SourceValue {
 
 impl TaskView {
     /// Whether both are of one kind and have the same content.
+    #[tactic(auto, using(crate::proofs::Sameness::same_views))]
     pub fn same(&self, other: &TaskView) -> bool
-        ensures { result ≡ view_eq self.now other.now }
+        ensures test { result ≡ view_eq self.now other.now }
+        ensures equal { IsTrue result ↔ (self.now ≡ other.now) }
     {
         match (self, other) {
             (TaskView::Initial, TaskView::Initial) => true,
@@ -44,8 +46,10 @@ impl TaskView {
 
 impl SourceValue {
     /// Whether both are of one kind and have the same content.
+    #[tactic(auto, using(crate::proofs::Sameness::same_sources))]
     pub fn same(&self, other: &SourceValue) -> bool
-        ensures { result ≡ source_eq self.now other.now }
+        ensures test { result ≡ source_eq self.now other.now }
+        ensures equal { IsTrue result ↔ (self.now ≡ other.now) }
     {
         match (self, other) {
             (SourceValue::Plain(a), SourceValue::Plain(b)) => a.same(b),

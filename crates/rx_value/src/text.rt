@@ -1,4 +1,4 @@
-ghost use Rattle.std.specs.Prelude.{◌≡◌, [], ◌++◌, ◌<◌, IfOk, OnOk, OnErr, length, bytes_eq, slice_index, encode_utf8};
+ghost use Rattle.std.specs.Prelude.{◌≡◌, ◌↔◌, [], ◌++◌, ◌<◌, IfOk, OnOk, OnErr, IsTrue, length, bytes_eq, slice_index, encode_utf8};
 
 use crate::memory::Memory;
 use std::alloc::Global;
@@ -88,8 +88,10 @@ impl RxText {
     }
 
     /// Whether both have the same bytes.
+    #[tactic(auto, using(crate::proofs::Sameness::same_texts))]
     pub fn same(&self, other: &RxText) -> bool
-        ensures { result ≡ bytes_eq self.now other.now }
+        ensures test { result ≡ bytes_eq self.now other.now }
+        ensures equal { IsTrue result ↔ (self.now ≡ other.now) }
     {
         self.as_str() == other.as_str()
     }

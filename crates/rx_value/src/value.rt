@@ -1,4 +1,4 @@
-ghost use Rattle.std.specs.Prelude.{◌≡◌, IfOk, MatchOption, None, Some};
+ghost use Rattle.std.specs.Prelude.{◌≡◌, ◌↔◌, IfOk, IsTrue, MatchOption, None, Some};
 ghost use Rattle.rx_value.specs.Value.{value_eq, ints_eq};
 ghost use Rattle.rx_value.specs.Numbers.{numbers_of};
 ghost use Rattle.rx_value.specs.Truth.{truthy};
@@ -39,8 +39,10 @@ impl Value {
     }
 
     /// Whether both are of one kind and have the same content.
+    #[tactic(auto, using(crate::proofs::Sameness::same_values))]
     pub fn same(&self, other: &Value) -> bool
-        ensures { result ≡ value_eq self.now other.now }
+        ensures test { result ≡ value_eq self.now other.now }
+        ensures equal { IsTrue result ↔ (self.now ≡ other.now) }
     {
         match (self, other) {
             (Value::Null, Value::Null) => true,

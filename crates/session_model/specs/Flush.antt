@@ -1,5 +1,5 @@
 -- The flush: which readers wait, and their runs until none waits, the budget is spent or an observer fails.
-use Rattle.std.specs.Prelude.{ℕ, zero, suc, ◌+◌, ℤ, pos, Bool, true, false, not, ◌&&◌, ◌||◌, List, [], ◌∷◌, ◌++◌, Option, Some, None, option_map, int_lt, if◌then◌else◌}
+use Rattle.std.specs.Prelude.{ℕ, zero, suc, ◌+◌, ℤ, pos, Bool, true, false, not, ◌&&◌, ◌||◌, List, [], ◌∷◌, Option, Some, None, option_map, int_lt, if◌then◌else◌}
 use Rattle.rx_value.specs.declared.outcome.Outcome.{Outcome}
 use Rattle.rx_value.specs.declared.outcome.Outcome.TheVariants.{Fail}
 use Rattle.shiny_json.specs.declared.message.Pair.{Pair}
@@ -7,8 +7,8 @@ use Rattle.app_tree.specs.Tree.{Node, text, plot, observe, on, Shape}
 use Rattle.app_tree.specs.Numbering.{readers, reader, is_observer}
 use Rattle.session_model.specs.declared.state.ReaderState.{ReaderState}
 use Rattle.session_model.specs.State.{SessionState, reader_state, with_reader, is_alive}
-use Rattle.session_model.specs.Run.{Ran, run_reader}
-use Rattle.session_model.specs.Observing.{Acted, run_observer}
+use Rattle.session_model.specs.Run.{ReaderRun, run_reader}
+use Rattle.session_model.specs.Observing.{StatementsResult, run_observer}
 
 -- ---- who waits
 
@@ -62,8 +62,8 @@ pub record Run : Type 0 where
   pub outcome : Outcome
   pub messages : List Pair
 
--- a run, and the session's state and the number of bodies that were run behind it
-pub record Made : Type 0 where
+-- a run with what it leaves: the session's state, and how many bodies were run
+pub record RunResult : Type 0 where
   pub state : SessionState
   pub bodies : ℕ
   pub run : Run
@@ -72,21 +72,21 @@ abbrev pub with_last : ℕ → Outcome → SessionState → SessionState
 with_last n outcome state = with_reader n (record (reader_state state n) { last = Some outcome }) state
 
 -- an output's outcome becomes its last outcome
-abbrev pub output_made : ℕ → Ran → Made
-output_made n ran = record { state = with_last n ran.outcome ran.state; bodies = ran.bodies; run = record { number = n; outcome = ran.outcome; messages = [] } }
+abbrev pub output_made : ℕ → ReaderRun → RunResult
+output_made n run = record { state = with_last n run.outcome run.state; bodies = run.bodies; run = record { number = n; outcome = run.outcome; messages = [] } }
 
-abbrev pub observer_made : ℕ → Acted → Made
-observer_made n a = record { state = a.state; bodies = a.bodies; run = record { number = n; outcome = a.outcome; messages = a.messages } }
+abbrev pub observer_made : ℕ → StatementsResult → RunResult
+observer_made n result = record { state = result.state; bodies = result.bodies; run = record { number = n; outcome = result.outcome; messages = result.messages } }
 
 abbrev pub is_observer_at : Option Node → Bool
 is_observer_at (Some i) = is_observer i
 is_observer_at None = false
 
-abbrev pub make_by : Bool → Shape → ℕ → SessionState → Made
+abbrev pub make_by : Bool → Shape → ℕ → SessionState → RunResult
 make_by true app n state = observer_made n (run_observer app n state)
 make_by false app n state = output_made n (run_reader app n state)
 
-abbrev pub make_run : Shape → ℕ → SessionState → Made
+abbrev pub make_run : Shape → ℕ → SessionState → RunResult
 make_run app n state = make_by (is_observer_at (reader app n)) app n state
 
 -- ---- the flush
@@ -111,29 +111,36 @@ failure_by _ outcome = None
 abbrev pub failure_of : Shape → Run → Option (List ℕ)
 failure_of app run = failure_by (is_observer_at (reader app run.number)) run.outcome
 
-abbrev pub flushed_to : FlushEnd → SessionState → List Run → ℕ → Flushed
-flushed_to end state runs bodies = record { state = state; runs = runs; bodies = bodies; end = end }
+-- without a run
+abbrev pub no_runs : FlushEnd → SessionState → Flushed
+no_runs end state = record { state = state; runs = []; bodies = 0; end = end }
 
-abbrev pub after_failure : Option (List ℕ) → (SessionState → List Run → ℕ → Flushed) → SessionState → List Run → ℕ → Flushed
-after_failure None go_on state runs bodies = go_on state runs bodies
-after_failure (Some why) go_on state runs bodies = flushed_to (observer_failed why) state runs bodies
+-- a run, and what the flush makes behind it
+abbrev pub and_then : RunResult → Flushed → Flushed
+and_then first rest = record { state = rest.state; runs = first.run ∷ rest.runs; bodies = first.bodies + rest.bodies; end = rest.end }
 
--- after the run the flush goes on, unless an observer failed
-abbrev pub after_run : Shape → (SessionState → List Run → ℕ → Flushed) → List Run → ℕ → Made → Flushed
-after_run app go_on runs bodies made = after_failure (failure_of app made.run) go_on made.state (runs ++ made.run ∷ []) (bodies + made.bodies)
+-- the flush goes on behind a run, unless that is of an observer that failed
+abbrev pub unless_failed : Option (List ℕ) → (SessionState → Flushed) → SessionState → Flushed
+unless_failed None go_on state = go_on state
+unless_failed (Some why) go_on state = no_runs (observer_failed why) state
 
-abbrev pub flush_step : Shape → (SessionState → List Run → ℕ → Flushed) → SessionState → List Run → ℕ → Option ℕ → Flushed
-flush_step app go_on state runs bodies None = flushed_to done state runs bodies
-flush_step app go_on state runs bodies (Some n) = after_run app go_on runs bodies (make_run app n state)
+abbrev pub after_run : Shape → (SessionState → Flushed) → RunResult → Flushed
+after_run app go_on first = and_then first (unless_failed (failure_of app first.run) go_on first.state)
 
-abbrev pub flush_end : Option ℕ → FlushEnd
-flush_end None = done
-flush_end (Some n) = budget_spent
+-- where nobody waits there is no run, and else the next one stands in front of the flush behind it
+abbrev pub flush_step : Shape → (SessionState → Flushed) → SessionState → Option ℕ → Flushed
+flush_step app go_on state None = no_runs done state
+flush_step app go_on state (Some n) = after_run app go_on (make_run app n state)
 
--- after these runs, with so many left of the budget
-abbrev pub flush_from : Shape → ℕ → SessionState → List Run → ℕ → Flushed
-flush_from app zero state runs bodies = flushed_to (flush_end (next_waiting app state)) state runs bodies
-flush_from app (suc left) state runs bodies = flush_step app (flush_from app left) state runs bodies (next_waiting app state)
+-- nothing is left of the budget
+abbrev pub end_without_budget : Option ℕ → FlushEnd
+end_without_budget None = done
+end_without_budget (Some n) = budget_spent
+
+-- with so many runs left of the budget
+abbrev pub flush_within : Shape → ℕ → SessionState → Flushed
+flush_within app zero state = no_runs (end_without_budget (next_waiting app state)) state
+flush_within app (suc left) state = flush_step app (flush_within app left) state (next_waiting app state)
 
 abbrev pub flush : Shape → SessionState → Flushed
-flush app state = flush_from app app.budget state [] 0
+flush app state = flush_within app app.budget state

@@ -1,5 +1,5 @@
 -- Which readers count as missing.
-use Rattle.std.specs.Prelude.{◌≡◌, pos, false, [], ◌∷◌, Some, codes}
+use Rattle.std.specs.Prelude.{◌≡◌, pos, false, [], ◌∷◌, Some, None, codes}
 use Rattle.rx_value.specs.declared.value.Value.TheVariants.{Int, Text}
 use Rattle.rx_value.specs.declared.source.SourceValue.TheVariants.{Plain}
 use Rattle.app_tree.specs.declared.term.Read.TheVariants as read
@@ -30,7 +30,7 @@ abbrev pub all_alive : SessionState
 all_alive = record { values = Plain (Int (pos 7)) ∷ []; readers = alive ∷ alive ∷ alive ∷ []; boards = [] }
 
 abbrev pub keeping_none : KeptSession
-keeping_none = record { values = Plain (Int (pos 7)) ∷ []; readers = first_kept ∷ first_kept ∷ first_kept ∷ []; boards = [] }
+keeping_none = record { values = Plain (Int (pos 7)) ∷ []; readers = first_kept ∷ first_kept ∷ first_kept ∷ []; running = None }
 
 -- `a` and `b` are missing; a key of `c` fails, so its body would not be run
 abbrev pub CountsTheMissing : Type 0

@@ -23,13 +23,13 @@ use Rattle.task_board.specs.Board.{AfterInvoke, board_at, invoked}
 use Rattle.session_model.specs.declared.state.Dependencies.{Dependencies}
 use Rattle.session_model.specs.State.{SessionState, reader_state, with_reader, sources_in, with_sources, has_run}
 use Rattle.session_model.specs.Change.{change, frozen}
-use Rattle.session_model.specs.Reading.{Reached, read_term}
+use Rattle.session_model.specs.Reading.{TermResult, read_term}
 use Rattle.session_model.specs.Run.{choose, passing, visit_expression}
 use Rattle.session_model.specs.Tasks.{first_task, with_board, see_task}
 
 -- what statements have come to: the state, how many bodies were run, the input messages, and an outcome: a value where
 -- the run goes on, and else the failure at which it ended. What was written before that stays
-pub record Acted : Type 0 where
+pub record StatementsResult : Type 0 where
   pub state : SessionState
   pub bodies : ℕ
   pub messages : List Pair
@@ -52,40 +52,40 @@ with_reads app n [] state = state
 with_reads app n (r ∷ more) state =
     with_reads app n more (with_reader n (record (reader_state state n) { dependencies = more_sources (sources_reached app state r) (reader_state state n).dependencies }) state)
 
--- the reads of a term count, or not: those of the statements of an `on` do not
-abbrev pub counting : Shape → ℕ → Bool → Reached → Reached
-counting app n true e = record e { state = with_reads app n e.outside e.state }
-counting app n false e = e
+-- the reads of a term count, unless it is isolated, as the statements of an `on` are
+abbrev pub counting : Shape → ℕ → Bool → TermResult → TermResult
+counting app n true e = e
+counting app n false e = record e { state = with_reads app n e.outside e.state }
 
 -- ---- one statement after another
 
-abbrev pub acted : Outcome → SessionState → Acted
-acted outcome state = record { state = state; bodies = 0; messages = []; outcome = outcome }
+abbrev pub ended_with : Outcome → SessionState → StatementsResult
+ended_with outcome state = record { state = state; bodies = 0; messages = []; outcome = outcome }
 
 -- the statement is done
-abbrev pub went : SessionState → Acted
-went state = acted (Val v.Null) state
+abbrev pub goes_on : SessionState → StatementsResult
+goes_on state = ended_with (Val v.Null) state
 
-abbrev pub then_acted : Acted → Acted → Acted
-then_acted a next = record { state = next.state; bodies = a.bodies + next.bodies; messages = a.messages ++ next.messages; outcome = next.outcome }
+abbrev pub then_result : StatementsResult → StatementsResult → StatementsResult
+then_result a next = record { state = next.state; bodies = a.bodies + next.bodies; messages = a.messages ++ next.messages; outcome = next.outcome }
 
-abbrev pub then_acts_by : Acted → Outcome → (SessionState → Acted) → Acted
-then_acts_by a (Val x) next = then_acted a (next a.state)
-then_acts_by a _ next = a
+abbrev pub then_statements_by : StatementsResult → Outcome → (SessionState → StatementsResult) → StatementsResult
+then_statements_by a (Val x) next = then_result a (next a.state)
+then_statements_by a _ next = a
 
 -- goes on, or ends at a failure
-abbrev pub then_acts : Acted → (SessionState → Acted) → Acted
-then_acts a next = then_acts_by a a.outcome next
+abbrev pub then_statements : StatementsResult → (SessionState → StatementsResult) → StatementsResult
+then_statements a next = then_statements_by a a.outcome next
 
-abbrev pub of_term : Reached → Acted
+abbrev pub of_term : TermResult → StatementsResult
 of_term e = record { state = e.state; bodies = e.bodies; messages = []; outcome = e.outcome }
 
-abbrev pub with_value_by : Reached → Outcome → (Value → SessionState → Acted) → Acted
-with_value_by e (Val x) next = then_acted (of_term e) (next x e.state)
+abbrev pub with_value_by : TermResult → Outcome → (Value → SessionState → StatementsResult) → StatementsResult
+with_value_by e (Val x) next = then_result (of_term e) (next x e.state)
 with_value_by e _ next = of_term e
 
 -- goes on with a term's value
-abbrev pub with_value : Reached → (Value → SessionState → Acted) → Acted
+abbrev pub with_value : TermResult → (Value → SessionState → StatementsResult) → StatementsResult
 with_value e next = with_value_by e e.outcome next
 
 -- ---- what the statements do
@@ -99,63 +99,63 @@ abbrev pub input_name : Shape → ℕ → List ℕ
 input_name app s = name_of_source (slice_get (declared_sources app.items) s)
 
 -- the client is told a value for an input, which stays as it is until the client sends it
-abbrev pub tell_input : Shape → ℕ → Value → SessionState → Acted
-tell_input app s x state = record (went state) { messages = record { name = input_name app s; value = x } ∷ [] }
+abbrev pub tell_input : Shape → ℕ → Value → SessionState → StatementsResult
+tell_input app s x state = record (goes_on state) { messages = record { name = input_name app s; value = x } ∷ [] }
 
 -- a task that is started runs; on one that runs the invocation waits; and where as many wait as may, the statement fails
-abbrev pub after_invoke : Shape → ℕ → AfterInvoke → Invoked → SessionState → Acted
-after_invoke app t after (Started job) state = went (with_board t after.board (see_task app t view.Running state))
-after_invoke app t after Queued state = went (with_board t after.board state)
-after_invoke app t after QueueFull state = acted (Fail (codes "task queue is full")) state
+abbrev pub after_invoke : Shape → ℕ → AfterInvoke → Invoked → SessionState → StatementsResult
+after_invoke app t after (Started job) state = goes_on (with_board t after.board (see_task app t view.Running state))
+after_invoke app t after Queued state = goes_on (with_board t after.board state)
+after_invoke app t after QueueFull state = ended_with (Fail (codes "task queue is full")) state
 
-abbrev pub invoke_task : Shape → ℕ → List Value → SessionState → Acted
+abbrev pub invoke_task : Shape → ℕ → List Value → SessionState → StatementsResult
 invoke_task app t args state = after_invoke app t (invoked t args (board_at state.boards t)) (invoked t args (board_at state.boards t)).answer state
 
 -- the block that the condition chooses
-abbrev pub choose_block : (SessionState → Acted) → (SessionState → Acted) → Value → SessionState → Acted
+abbrev pub choose_block : (SessionState → StatementsResult) → (SessionState → StatementsResult) → Value → SessionState → StatementsResult
 choose_block block other (v.Bool true) state = block state
 choose_block block other (v.Bool false) state = other state
-choose_block block other _ state = acted (failed NotACondition) state
+choose_block block other _ state = ended_with (failed NotACondition) state
 
--- ---- statements of observer n; `counts` says whether what they read counts
+-- ---- statements of observer n; `isolated` says that what they read does not count
 
-abbrev pub observed : Shape → ℕ → Bool → Tree → SessionState → Reached
-observed app n counts t state = counting app n counts (read_term app (passing (visit_expression app)) t [] state)
+abbrev pub observed : Shape → ℕ → Bool → Tree → SessionState → TermResult
+observed app n isolated t state = counting app n isolated (read_term app (passing (visit_expression app)) t [] state)
 
 -- goes on with the values of all the terms, behind those that are there
-abbrev pub with_values : Shape → ℕ → Bool → Trees → List Value → (List Value → SessionState → Acted) → SessionState → Acted
-with_values app n counts no_trees done next state = next done state
-with_values app n counts (tree t more) done next state =
-    with_value (observed app n counts t state) (λ x. with_values app n counts more (done ++ x ∷ []) next)
+abbrev pub with_values : Shape → ℕ → Bool → Trees → List Value → (List Value → SessionState → StatementsResult) → SessionState → StatementsResult
+with_values app n isolated no_trees done next state = next done state
+with_values app n isolated (tree t more) done next state =
+    with_value (observed app n isolated t state) (λ x. with_values app n isolated more (done ++ x ∷ []) next)
 
 abbrev mutual
-  pub do_act : Shape → ℕ → Bool → Act → SessionState → Acted
-  do_act app n counts (set s t) state = with_value (observed app n counts t state) (λ x after. went (change s (Plain x) after))
-  do_act app n counts (invoke s ts) state = with_values app n counts ts [] (invoke_task app (s - first_task app)) state
-  do_act app n counts (update s t) state = with_value (observed app n counts t state) (tell_input app s)
-  do_act app n counts (freeze s) state = went (change s (frozen (value_at state.values s)) state)
-  do_act app n counts (perform t) state = of_term (observed app n counts t state)
-  do_act app n counts (branch t block) state = with_value (observed app n counts t state) (choose_block (do_acts app n counts block) went)
-  do_act app n counts (branch_else t block other) state =
-      with_value (observed app n counts t state) (choose_block (do_acts app n counts block) (do_acts app n counts other))
+  pub run_statement : Shape → ℕ → Bool → Act → SessionState → StatementsResult
+  run_statement app n isolated (set s t) state = with_value (observed app n isolated t state) (λ x after. goes_on (change s (Plain x) after))
+  run_statement app n isolated (invoke s ts) state = with_values app n isolated ts [] (invoke_task app (s - first_task app)) state
+  run_statement app n isolated (update s t) state = with_value (observed app n isolated t state) (tell_input app s)
+  run_statement app n isolated (freeze s) state = goes_on (change s (frozen (value_at state.values s)) state)
+  run_statement app n isolated (perform t) state = of_term (observed app n isolated t state)
+  run_statement app n isolated (branch t block) state = with_value (observed app n isolated t state) (choose_block (run_block app n isolated block) goes_on)
+  run_statement app n isolated (branch_else t block other) state =
+      with_value (observed app n isolated t state) (choose_block (run_block app n isolated block) (run_block app n isolated other))
 
-  pub do_acts : Shape → ℕ → Bool → Acts → SessionState → Acted
-  do_acts app n counts no_acts state = went state
-  do_acts app n counts (act a more) state = then_acts (do_act app n counts a state) (do_acts app n counts more)
+  pub run_block : Shape → ℕ → Bool → Acts → SessionState → StatementsResult
+  run_block app n isolated no_acts state = goes_on state
+  run_block app n isolated (act a more) state = then_statements (run_statement app n isolated a state) (run_block app n isolated more)
 
 -- ---- the run
 
 -- what `on` does with the value of its event term: at NULL it stops, unless that is allowed, and it leaves out its
 -- first run where it ignores that; what its statements read does not count
-abbrev pub do_on : Shape → ℕ → Bool → Flags → Acts → Value → SessionState → Acted
+abbrev pub do_on : Shape → ℕ → Bool → Flags → Acts → Value → SessionState → StatementsResult
 do_on app n first flags block x state =
-    choose (is_null x && not flags.allow_null || first && flags.ignore_init) (acted Stop) (do_acts app n false block) state
+    choose (is_null x && not flags.allow_null || first && flags.ignore_init) (ended_with Stop) (run_block app n true block) state
 
-abbrev pub observe_node : Shape → ℕ → Bool → Option Node → SessionState → Acted
-observe_node app n first (Some (observe name priority block)) state = do_acts app n true block state
-observe_node app n first (Some (on name priority flags e block)) state = with_value (observed app n true e state) (do_on app n first flags block)
-observe_node app n first _ state = went state
+abbrev pub observe_node : Shape → ℕ → Bool → Option Node → SessionState → StatementsResult
+observe_node app n first (Some (observe name priority block)) state = run_block app n false block state
+observe_node app n first (Some (on name priority flags e block)) state = with_value (observed app n false e state) (do_on app n first flags block)
+observe_node app n first _ state = goes_on state
 
 -- observer n runs: at first it depends on nothing
-abbrev pub run_observer : Shape → ℕ → SessionState → Acted
+abbrev pub run_observer : Shape → ℕ → SessionState → StatementsResult
 run_observer app n state = observe_node app n (not (has_run (reader_state state n))) (reader app n) (with_sources n [] state)

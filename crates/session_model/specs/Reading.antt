@@ -1,5 +1,6 @@
 -- A term evaluated in a session, from left to right: the session's state is handed on from read to read, since an
--- expression that is read and isn't alive is run at that point.
+-- expression that is read and isn't alive is run at that point. In every state that a session comes to, this is `evaluate`
+-- of the term on what the expressions give now, with a walk through what it asks: the law `TermIsByTrace` of `session_laws`.
 use Rattle.std.specs.Prelude.{ℕ, ◌+◌, ℤ, Bool, true, false, List, [], ◌∷◌, ◌++◌, Option, Some, None, slice_get, unwrap_or}
 use Rattle.rx_value.specs.declared.value.Value.{Value}
 use Rattle.rx_value.specs.declared.value.Value.TheVariants as v
@@ -21,7 +22,7 @@ use Rattle.session_model.specs.State.{SessionState, isolated_of}
 
 -- what an evaluation has come to: the session's state, how many bodies were run, the reads outside of every isolated
 -- site in their order, and the outcome
-pub record Reached : Type 0 where
+pub record TermResult : Type 0 where
   pub state : SessionState
   pub bodies : ℕ
   pub outside : List Read
@@ -39,28 +40,28 @@ pub record Manner : Type 0 where
 
 -- an evaluation that starts in a state of the session
 abbrev pub Reading : Type 0
-Reading = SessionState → Reached
+Reading = SessionState → TermResult
 
 -- without reading anything
 abbrev pub given : Outcome → Reading
 given outcome state = record { state = state; bodies = 0; outside = []; outcome = outcome }
 
 -- one evaluation, and then another, which gives the outcome
-abbrev pub followed : Reached → Reached → Reached
+abbrev pub followed : TermResult → TermResult → TermResult
 followed e next = record { state = next.state; bodies = e.bodies + next.bodies; outside = e.outside ++ next.outside; outcome = next.outcome }
 
 -- goes on with a value, and ends at a failure
-abbrev pub go_on_by : Reached → Outcome → (Value → Reading) → Reached
+abbrev pub go_on_by : TermResult → Outcome → (Value → Reading) → TermResult
 go_on_by e (Val x) next = followed e (next x e.state)
 go_on_by e _ next = e
 
-abbrev pub go_on : Reached → (Value → Reading) → Reached
+abbrev pub go_on : TermResult → (Value → Reading) → TermResult
 go_on e next = go_on_by e e.outcome next
 
 -- ---- reads
 
 -- an expression gives what it comes to afresh in the state that its visit leaves
-abbrev pub read_expression : Shape → ℕ → Visited → Reached
+abbrev pub read_expression : Shape → ℕ → Visited → TermResult
 read_expression app m visited = record {
   state = visited.state;
   bodies = visited.bodies;
@@ -106,7 +107,7 @@ over_list_in step start None state = given (failed WrongKind) state
 -- ---- isolated sites
 
 -- what is read at a site does not count, and its outcome may be kept
-abbrev pub kept_in : Manner → ℕ → Reached → Reached
+abbrev pub kept_in : Manner → ℕ → TermResult → TermResult
 kept_in manner site e = record e { state = manner.keep site e.outcome e.state; outside = [] }
 
 -- ---- terms

@@ -1,5 +1,5 @@
 -- A run of an expression or of an output.
-use Rattle.std.specs.Prelude.{ℕ, zero, suc, ◌==◌, Bool, true, false, not, ◌&&◌, [], ◌∷◌, ◌++◌, length, Option, Some}
+use Rattle.std.specs.Prelude.{ℕ, zero, suc, ◌==◌, Bool, true, false, not, ◌&&◌, [], ◌∷◌, ◌++◌, length, Option, Some, None}
 use Rattle.rx_value.specs.declared.value.Value.{Value}
 use Rattle.rx_value.specs.declared.outcome.Outcome.{Outcome}
 use Rattle.rx_value.specs.declared.outcome.Outcome.TheVariants.{Stop}
@@ -9,8 +9,10 @@ use Rattle.app_tree.specs.Tree.{Tree, Trees, no_trees, tree, Node, reactive, eve
 use Rattle.app_tree.specs.Numbering.{readers, reader}
 use Rattle.app_tree.specs.Evaluate.{site_count}
 use Rattle.app_tree.specs.Fresh.{fresh_outcome, sources_read}
+use Rattle.session_model.specs.declared.state.Dependencies.{Dependencies}
+use Rattle.session_model.specs.declared.state.ReaderState.{ReaderState}
 use Rattle.session_model.specs.State.{SessionState, isolated_of, reader_state, with_reader, with_sources, has_run, is_alive}
-use Rattle.session_model.specs.Reading.{Reached, Visited, Manner, Reading, given, go_on, kept_in, read_term, read_terms}
+use Rattle.session_model.specs.Reading.{TermResult, Visited, Manner, Reading, given, go_on, kept_in, read_term, read_terms}
 
 -- one of two ways, of which only the chosen one is taken
 abbrev pub choose : {A B : Type 0} → Bool → (A → B) → (A → B) → A → B
@@ -22,9 +24,16 @@ choose false f g x = g x
 abbrev pub with_isolated : ℕ → ℕ → Outcome → SessionState → SessionState
 with_isolated n site outcome state = with_reader n (record (reader_state state n) { isolated = (reader_state state n).isolated ++ (site, outcome) ∷ [] }) state
 
--- the outcomes of its isolated sites are forgotten as a run begins
+-- as a run begins, the outcomes of the reader's isolated sites are forgotten, and it is not alive until the run ends
+abbrev pub made_stale : Option Dependencies → Option Dependencies
+made_stale None = None
+made_stale (Some d) = Some (record d { changed = true })
+
+abbrev pub at_beginning : ReaderState → ReaderState
+at_beginning r = record r { dependencies = made_stale r.dependencies; isolated = [] }
+
 abbrev pub forgotten : ℕ → SessionState → SessionState
-forgotten n state = with_reader n (record (reader_state state n) { isolated = [] }) state
+forgotten n state = with_reader n (at_beginning (reader_state state n)) state
 
 -- reader n keeps what its isolated sites come to
 abbrev pub keeping : (ℕ → SessionState → Visited) → ℕ → Manner
@@ -36,11 +45,11 @@ passing visit = record { visit = visit; keep = λ site outcome state. state }
 
 -- ---- the evaluation of a reader
 
-abbrev pub counted : Reached → Reached
+abbrev pub counted : TermResult → TermResult
 counted e = record e { bodies = suc e.bodies }
 
 -- a body's reads do not count where there are keys
-abbrev pub without_reads : Reached → Reached
+abbrev pub without_reads : TermResult → TermResult
 without_reads e = record e { outside = [] }
 
 -- a body alone, or the keys in their order and then the body, which keeps nothing
@@ -75,20 +84,20 @@ read_node app visit n first _ state = given Stop state
 -- ---- the run
 
 -- the state after a run, what the run came to, and how many bodies were run
-pub record Ran : Type 0 where
+pub record ReaderRun : Type 0 where
   pub state : SessionState
   pub outcome : Outcome
   pub bodies : ℕ
 
 -- the reader depends from now on on what it reached, and comes to its fresh outcome
-abbrev pub finished : Shape → ℕ → Reached → Ran
+abbrev pub finished : Shape → ℕ → TermResult → ReaderRun
 finished app n e = record {
   state = with_sources n (sources_read app e.state.values (isolated_of e.state) n) e.state;
   outcome = fresh_outcome app e.state.values (isolated_of e.state) n;
   bodies = e.bodies;
 }
 
-abbrev pub run_with : Shape → (ℕ → SessionState → Visited) → ℕ → SessionState → Ran
+abbrev pub run_with : Shape → (ℕ → SessionState → Visited) → ℕ → SessionState → ReaderRun
 run_with app visit n state = finished app n (read_node app visit n (not (has_run (reader_state state n))) (reader app n) (forgotten n state))
 
 -- ---- expressions that are read
@@ -96,11 +105,11 @@ run_with app visit n state = finished app n (read_node app visit n (not (has_run
 abbrev pub unvisited : SessionState → Visited
 unvisited state = record { state = state; bodies = 0 }
 
-abbrev pub visited_by : Ran → Visited
+abbrev pub visited_by : ReaderRun → Visited
 visited_by ran = record { state = ran.state; bodies = ran.bodies }
 
 -- an expression that is alive is left as it is, and any other is run
-abbrev pub run_if_dead : Bool → (SessionState → Ran) → SessionState → Visited
+abbrev pub run_if_dead : Bool → (SessionState → ReaderRun) → SessionState → Visited
 run_if_dead true run state = unvisited state
 run_if_dead false run state = visited_by (run state)
 
@@ -114,5 +123,5 @@ abbrev pub visit_expression : Shape → ℕ → SessionState → Visited
 visit_expression app m state = visit_below app (length (readers app)) m state
 
 -- a run of an output, or of an expression, as it is read: whether it is alive or not
-abbrev pub run_reader : Shape → ℕ → SessionState → Ran
+abbrev pub run_reader : Shape → ℕ → SessionState → ReaderRun
 run_reader app n state = run_with app (visit_expression app) n state

@@ -1,6 +1,6 @@
 -- The lines that `replay` takes today: at most 200, all for one session, with an init first and then updates; they set
 -- declared inputs to whole numbers, and the init says also what is hidden. Any other line is refused as a bad one.
-use Rattle.std.specs.Prelude.{◌≡◌, ℕ, suc, ◌==◌, Bool, true, false, not, ◌&&◌, ◌||◌, nat_le, List, [], ◌∷◌, Option, Some, None, is_some, option_and_then, codes, bytes_eq, if◌then◌else◌}
+use Rattle.std.specs.Prelude.{ℕ, suc, ◌==◌, Bool, true, false, not, ◌&&◌, ◌||◌, nat_le, List, [], ◌∷◌, Option, Some, None, is_some, option_and_then, codes, bytes_eq, if◌then◌else◌}
 use Rattle.std.specs.List.{list_any, list_all}
 use Rattle.serde_json.specs.Data.{Data, boolean, number, object, Members, no_members, member}
 use Rattle.serde_json.specs.Find.{get_member, as_object, as_i64}
@@ -13,7 +13,7 @@ use Rattle.app_tree.specs.Tree.{Node, Shape}
 use Rattle.app_tree.specs.Numbering.{input_number}
 use Rattle.session_model.specs.Lines.{lines_of}
 use Rattle.session_model.specs.Apply.{output_told}
-use Rattle.session_model.specs.Transcript.{Line, recv, line_of, Open, done, Replayed, replay_from, replayed}
+use Rattle.session_model.specs.Transcript.{Line, recv, line_of, Open, Replayed, replay_from}
 
 -- ---- messages
 
@@ -93,7 +93,3 @@ taken_by app k sessions line = taken_line app k sessions (line_of app.items line
 -- that limit is not asked for
 abbrev pub replayed_today : Shape → List ℕ → Replayed
 replayed_today app bytes = replay_from app (taken_by app) 1 [] (lines_of bytes)
-
--- a transcript that is taken to its end is taken so as a whole, and has the same output
-abbrev pub TakenIsWhole : Type 0
-TakenIsWhole = (app : Shape) (bytes : List ℕ) → (replayed_today app bytes).end ≡ done → replayed app bytes ≡ replayed_today app bytes

@@ -1,14 +1,13 @@
 -- Tasks in a session: an invocation, and the end of one.
-use Rattle.std.specs.Prelude.{ℕ, ◌+◌, ◌==◌, Bool, false, List, filter, length, Option, Some, None, slice_get, slice_set}
-use Rattle.rx_value.specs.declared.value.Value.{Value}
+use Rattle.std.specs.Prelude.{ℕ, ◌+◌, ◌==◌, Bool, false, filter, length, Option, Some, None, slice_set}
 use Rattle.rx_value.specs.declared.outcome.Outcome.{Outcome}
-use Rattle.rx_value.specs.declared.outcome.Outcome.TheVariants.{Val, Stop}
+use Rattle.rx_value.specs.declared.outcome.Outcome.TheVariants.{Val}
 use Rattle.rx_value.specs.declared.source.TaskView.{TaskView}
 use Rattle.rx_value.specs.declared.source.TaskView.TheVariants as view
 use Rattle.rx_value.specs.declared.source.SourceValue.TheVariants.{Task}
-use Rattle.app_tree.specs.Tree.{Node, task, Shape}
-use Rattle.app_tree.specs.Numbering.{is_input, is_value, is_task}
-use Rattle.app_tree.specs.Evaluate.{Answers, outcome_of}
+use Rattle.app_tree.specs.Tree.{Shape}
+use Rattle.app_tree.specs.Numbering.{is_input, is_value}
+use Rattle.app_tree.specs.Tasks.{task_outcome}
 use Rattle.task_board.specs.declared.job.Invocation.{Invocation}
 use Rattle.task_board.specs.declared.job.Ended.{Ended}
 use Rattle.task_board.specs.declared.job.Ended.TheVariants.{Next, Quiet, Stale}
@@ -22,20 +21,6 @@ first_task app = length (filter is_input app.items) + length (filter is_value ap
 
 abbrev pub with_board : ℕ → TaskBoard → SessionState → SessionState
 with_board t board state = record state { boards = slice_set state.boards t board }
-
--- ---- what an invocation comes to
-
--- a task reads nothing but its parameters
-abbrev pub nothing_read : Answers
-nothing_read = record { read = λ r. Stop; site = λ site. None }
-
-abbrev pub body_outcome : Option Node → List Value → Outcome
-body_outcome (Some (task name parameters body)) args = outcome_of body nothing_read args
-body_outcome _ args = Stop
-
--- the outcome of task t's body on these arguments
-abbrev pub task_outcome : Shape → ℕ → List Value → Outcome
-task_outcome app t args = body_outcome (slice_get (filter is_task app.items) t) args
 
 -- ---- the end of an invocation
 

@@ -1,5 +1,5 @@
 -- A transcript of the messages of several sessions, and the output that its replay writes.
-use Rattle.std.specs.Prelude.{ℕ, suc, ◌+◌, ◌==◌, Bool, true, false, ◌&&◌, ◌||◌, nat_le, nat_lt, List, [], ◌∷◌, ◌++◌, length, take, drop, filter, Option, Some, None, is_some, codes, bytes_eq, decimal, if◌then◌else◌}
+use Rattle.std.specs.Prelude.{ℕ, suc, ◌==◌, Bool, true, false, ◌&&◌, ◌||◌, nat_le, nat_lt, List, [], ◌∷◌, ◌++◌, length, take, drop, filter, Option, Some, None, is_some, codes, bytes_eq, decimal, if◌then◌else◌}
 use Rattle.std.specs.List.{before_first, after_first}
 use Rattle.std.specs.Str.{is_utf8}
 use Rattle.serde_json.specs.Data.{string}
@@ -9,9 +9,10 @@ use Rattle.app_tree.specs.Tree.{Node, Shape}
 use Rattle.app_tree.specs.Numbering.{is_task, number_from}
 use Rattle.session_model.specs.declared.event.Event.{Event}
 use Rattle.session_model.specs.declared.event.Event.TheVariants.{Text, TaskEnd, End}
-use Rattle.session_model.specs.Alone.{Ending, ended, refused, spent, failed, answers, ending, state_after}
+use Rattle.session_model.specs.Alone.{Ending, ended, refused, budget_spent, observer_failed, answers, ending, state_after}
+use Rattle.session_model.specs.Journal.{is_full}
 use Rattle.session_model.specs.Lines.{line_limit, lines_of, is_space, is_label, has_space}
-use Rattle.session_model.specs.Output.{cause_name, send_lines, over_text}
+use Rattle.session_model.specs.WrittenLines.{cause_name, send_lines, over_text}
 
 -- ---- lines
 
@@ -88,23 +89,13 @@ abbrev pub with_session : Open → List Open → List Open
 with_session s [] = s ∷ []
 with_session s (other ∷ more) = if bytes_eq s.label other.label then s ∷ more else other ∷ with_session s more
 
--- the bytes of the client's texts
-abbrev pub text_bytes : List Event → ℕ
-text_bytes [] = 0
-text_bytes (Text t ∷ more) = length t + text_bytes more
-text_bytes (event ∷ more) = text_bytes more
-
--- 250,000 events, or texts of more than 16,777,216 bytes
-abbrev pub is_full : List Event → Bool
-is_full journal = nat_le 250000 (length journal) || nat_lt 16777216 (text_bytes journal)
-
 -- ---- output
 
 abbrev pub ending_text : Ending → List ℕ
 ending_text ended = codes "ended"
 ending_text (refused k cause) = codes "refused " ++ decimal k ++ codes " " ++ cause_name cause
-ending_text spent = codes "budget"
-ending_text (failed t) = codes "observer " ++ compact_text (string t)
+ending_text budget_spent = codes "budget"
+ending_text (observer_failed t) = codes "observer " ++ compact_text (string t)
 
 -- that line, where the session has ended
 abbrev pub over_line : List ℕ → Option Ending → List ℕ
@@ -136,79 +127,92 @@ step_by false app event s = record { output = event_output app event s; session 
 abbrev pub step : Shape → Event → Open → Stepped
 step app event s = step_by (is_full s.journal) app event s
 
--- ---- the replay
+-- ---- a line
 
--- all lines were taken, or the first that was refused, by its number from 1: it has no form, there is no open session
--- of its name, or its task does not run
+-- how a replay ends: all lines were taken, or the first one that was refused, by its number from 1, has no form, is for no
+-- open session, or ends a task that doesn't run
 pub data ReplayEnd : Type 0 where
   done : ReplayEnd
   bad_line : ℕ → ReplayEnd
   no_session : ℕ → ReplayEnd
   not_running : ℕ → ReplayEnd
 
+-- what becomes of a line: a session takes an event, or the line is refused and ends the replay
+pub data LineTaken : Type 0 where
+  takes : Event → Open → LineTaken
+  refuses : ReplayEnd → LineTaken
+
+-- a session that is there and not over
+abbrev pub still_open : Shape → Option Open → Option Open
+still_open app None = None
+still_open app (Some s) = if is_over app s then None else Some s
+
+-- the first message of a name opens its session, but a 65th name opens none
+abbrev pub open_or_new : Shape → List ℕ → List Open → Option Open → Option Open
+open_or_new app label sessions None = if nat_le session_limit (length sessions) then None else Some (opened label)
+open_or_new app label sessions (Some s) = still_open app (Some s)
+
+abbrev pub taken_by_open : ℕ → Event → Option Open → LineTaken
+taken_by_open k event None = refuses (no_session k)
+taken_by_open k event (Some s) = takes event s
+
+-- the end of the invocation that runs
+abbrev pub running_ends : ℕ → ℕ → Open → Option ℕ → LineTaken
+running_ends k t s None = refuses (not_running k)
+running_ends k t s (Some number) = takes (TaskEnd t number) s
+
+abbrev pub task_ends : Shape → ℕ → ℕ → Option Open → LineTaken
+task_ends app k t None = refuses (no_session k)
+task_ends app k t (Some s) = running_ends k t s (running_number (board_at (state_after app s.journal).boards t))
+
+-- which session takes which event of line k, by what the line says, or why the line is refused
+abbrev pub line_taken : Shape → ℕ → List Open → Option Line → LineTaken
+line_taken app k sessions None = refuses (bad_line k)
+line_taken app k sessions (Some (recv label t)) = taken_by_open k (Text t) (open_or_new app label sessions (session_of label sessions))
+line_taken app k sessions (Some (ends label t)) = task_ends app k t (still_open app (session_of label sessions))
+line_taken app k sessions (Some (closes label)) = taken_by_open k End (still_open app (session_of label sessions))
+
+-- ---- the replay
+
+-- what was written, the sessions with their journals, in the order in which they were opened, and how the replay ended
 pub record Replayed : Type 0 where
   pub output : List ℕ
+  pub sessions : List Open
   pub end : ReplayEnd
-
-abbrev pub stopped : ReplayEnd → Replayed
-stopped end = record { output = []; end = end }
-
-abbrev pub after_output : List ℕ → Replayed → Replayed
-after_output before r = record r { output = before ++ r.output }
 
 -- what follows, where the sessions have come so far
 abbrev pub Rest : Type 0
 Rest = List Open → Replayed
 
+abbrev pub stopped : List Open → ReplayEnd → Replayed
+stopped sessions end = record { output = []; sessions = sessions; end = end }
+
+abbrev pub after_output : List ℕ → Replayed → Replayed
+after_output before r = record r { output = before ++ r.output }
+
+-- at the end of the input the link of a session ends that is open
+abbrev pub closed_by : Bool → Shape → Open → Stepped
+closed_by true app s = record { output = []; session = s }
+closed_by false app s = step app End s
+
+abbrev pub with_closed : Stepped → Replayed → Replayed
+with_closed closed r = record { output = closed.output ++ r.output; sessions = closed.session ∷ r.sessions; end = r.end }
+
+abbrev pub all_closed : Shape → List Open → Replayed
+all_closed app [] = record { output = []; sessions = []; end = done }
+all_closed app (s ∷ more) = with_closed (closed_by (is_over app s) app s) (all_closed app more)
+
 abbrev pub stepped : List Open → Stepped → Rest → Replayed
 stepped sessions after next = after_output after.output (next (with_session after.session sessions))
 
--- an event of a session that is there and not over
-abbrev pub taken : Shape → ℕ → List Open → Event → Open → Bool → Rest → Replayed
-taken app k sessions event s true next = stopped (no_session k)
-taken app k sessions event s false next = stepped sessions (step app event s) next
+-- the session that takes the event steps, and what follows goes on behind it
+abbrev pub goes_by : Shape → List Open → LineTaken → Rest → Replayed
+goes_by app sessions (refuses end) next = stopped sessions end
+goes_by app sessions (takes event s) next = stepped sessions (step app event s) next
 
--- a 65th name opens no session
-abbrev pub opens : Bool → Shape → ℕ → List Open → Event → List ℕ → Rest → Replayed
-opens true app k sessions event label next = stopped (no_session k)
-opens false app k sessions event label next = stepped sessions (step app event (opened label)) next
-
--- the first message of a name opens its session
-abbrev pub received : Shape → ℕ → List Open → Event → List ℕ → Option Open → Rest → Replayed
-received app k sessions event label None next = opens (nat_le session_limit (length sessions)) app k sessions event label next
-received app k sessions event label (Some s) next = taken app k sessions event s (is_over app s) next
-
-abbrev pub closed : Shape → ℕ → List Open → Option Open → Rest → Replayed
-closed app k sessions None next = stopped (no_session k)
-closed app k sessions (Some s) next = taken app k sessions End s (is_over app s) next
-
--- the running invocation ends
-abbrev pub task_ended : Shape → ℕ → List Open → ℕ → Open → Option ℕ → Rest → Replayed
-task_ended app k sessions t s None next = stopped (not_running k)
-task_ended app k sessions t s (Some number) next = stepped sessions (step app (TaskEnd t number) s) next
-
-abbrev pub task_end_of : Shape → ℕ → List Open → ℕ → Open → Bool → Rest → Replayed
-task_end_of app k sessions t s true next = stopped (no_session k)
-task_end_of app k sessions t s false next = task_ended app k sessions t s (running_number (board_at (state_after app s.journal).boards t)) next
-
-abbrev pub ended_in : Shape → ℕ → List Open → ℕ → Option Open → Rest → Replayed
-ended_in app k sessions t None next = stopped (no_session k)
-ended_in app k sessions t (Some s) next = task_end_of app k sessions t s (is_over app s) next
-
+-- line k, which says this
 abbrev pub replay_line : Shape → ℕ → List Open → Option Line → Rest → Replayed
-replay_line app k sessions None next = stopped (bad_line k)
-replay_line app k sessions (Some (recv label t)) next = received app k sessions (Text t) label (session_of label sessions) next
-replay_line app k sessions (Some (ends label t)) next = ended_in app k sessions t (session_of label sessions) next
-replay_line app k sessions (Some (closes label)) next = closed app k sessions (session_of label sessions) next
-
-abbrev pub closing_output : Shape → Open → Bool → List ℕ
-closing_output app s true = []
-closing_output app s false = (step app End s).output
-
--- at the end of the input the links of all open sessions end, in the order in which they were opened
-abbrev pub all_closed : Shape → List Open → List ℕ
-all_closed app [] = []
-all_closed app (s ∷ more) = closing_output app s (is_over app s) ++ all_closed app more
+replay_line app k sessions said next = goes_by app sessions (line_taken app k sessions said) next
 
 abbrev pub is_line : ℕ → Option ℕ → Bool
 is_line k None = false
@@ -220,9 +224,9 @@ said_by app past k sessions line = if is_line k past then None else line_of app.
 
 -- these lines, the first of which has number k, where `said` tells what a line says by its number and the sessions before it
 abbrev pub replay_from : Shape → (ℕ → List Open → List ℕ → Option Line) → ℕ → List Open → List (List ℕ) → Replayed
-replay_from app said k sessions [] = record { output = all_closed app sessions; end = done }
+replay_from app said k sessions [] = all_closed app sessions
 replay_from app said k sessions (line ∷ more) = replay_line app k sessions (said k sessions line) (λ next. replay_from app said (suc k) next more)
 
--- the output of a transcript's replay, and how it ends
+-- the output of a transcript's replay, the journals of its sessions, and how it ends
 abbrev pub replayed : Shape → List ℕ → Replayed
 replayed app bytes = replay_from app (said_by app (line_past_limit bytes)) 1 [] (lines_of bytes)

@@ -3,18 +3,18 @@
 //! This crate holds definitions. They say what a session does with no graph, no edge, no kept
 //! outcome of an expression and no cache: every value is evaluated afresh on the current values, and
 //! what depends on what is a flat list of source numbers. Everything above is proved to do the same.
-//! `docs/definitions.md` leads through them.
+//! `docs/definitions.md` leads through them; what follows from them stands in `session_laws`.
 #![tactic(auto)]
 
 mod event;
-mod laws;
+mod examples;
+mod reason;
 mod state;
-mod taken;
 
 pub use event::Event;
-pub use laws::{
-    app_laws, change_laws, counts_missing_readers, evaluation_laws, flush_laws, freshness_laws,
-    journal_laws, run_laws, runs_part_in_a_wrong_state, standing_laws, state_laws, transcript_laws,
+pub use examples::{
+    counts_missing_readers, faithful_examples, standing_examples, step_examples,
+    unfaithful_examples,
 };
+pub use reason::Reason;
 pub use state::{Dependencies, ReaderState};
-pub use taken::taken_is_whole;

@@ -58,7 +58,7 @@ with_outputs-told name (o ∷ more) earlier parts rising tells =
     subst (λ (x : Entry). Tells name x (with_outputs more after)) (sym (or_earlier-assoc (last_told name more) (told name o) earlier))
     (with_outputs-told name more (or_earlier (told name o) earlier) after (with_entry-rising o.name e parts rising) here)
 
-pub tell_the_last : (os : List BatchOutput) → TellTheLast os
-tell_the_last os = λ name.
+pub tell_the_last : TellTheLast
+tell_the_last os name =
     subst (λ (x : Entry). Tells name x (with_outputs os no_parts)) (or_earlier-unsaid (last_told name os))
     (with_outputs-told name os unsaid no_parts (record { errors = tt; values = tt }) (record { values = refl; errors = refl }))

@@ -35,6 +35,6 @@ pub record Tells (name : List ℕ) (e : Entry) (parts : Parts) : Type 0 where
   pub values : get_member name parts.values ≡ value_told e
   pub errors : get_member name parts.errors ≡ error_told e
 
--- under each name the parts hold what its last run tells
-abbrev pub TellTheLast : List BatchOutput → Type 0
-TellTheLast os = (name : List ℕ) → Tells name (last_told name os) (with_outputs os no_parts)
+-- under each name the parts that outputs make hold what its last run tells
+abbrev pub TellTheLast : Type 0
+TellTheLast = (outputs : List BatchOutput) (name : List ℕ) → Tells name (last_told name outputs) (with_outputs outputs no_parts)

@@ -7,6 +7,7 @@
 
 mod batch;
 mod client;
+mod laws;
 mod message;
 mod server;
 #[cfg(test)]
@@ -15,6 +16,7 @@ mod values;
 
 pub use batch::{Batch, BatchOutput, BatchOutputs, Messages};
 pub use client::{client_of, read_client};
+pub use laws::values_laws;
 pub use message::{BadMessage, Client, ClientData, Pair};
 pub use server::{write_busy, write_config, write_progress, write_recalc};
 pub use values::write_values;

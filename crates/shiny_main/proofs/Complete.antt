@@ -1,5 +1,5 @@
 -- What is taken and meets no fault is done, or memory is wanting.
-use Rattle.std.proofs.Common.{◌≡◌, ◌≢◌, ℕ, List, Option, Some, None, IfSome, Ok, sym, ap, ◌∙◌, subst, inl, inr}
+use Rattle.std.proofs.Common.{◌≡◌, ◌≢◌, ℕ, List, Option, Some, None, IfSome, Ok, sym, ◌∙◌, subst, inl, inr}
 use Rattle.std.specs.Prelude.{⊤, String}
 use Rattle.std.specs.declared.alloc.Global.{Global}
 use Rattle.rx_ports.specs.Faults.{Rose}
@@ -18,6 +18,7 @@ use Rattle.shiny_main.specs.declared.ended.Ended.{Ended}
 use Rattle.shiny_main.specs.declared.ended.Ended.TheVariants as ended
 use Rattle.shiny_main.specs.Ends.{status_of}
 use Rattle.shiny_main.specs.Commands.{Ports, Says, count_line, Writes, ReplayedGives, RunsBuilt, CommandGives, AppGives}
+use Rattle.shiny_main.specs.SoFar.{HasWritten}
 use Rattle.shiny_main.specs.Top.{IsRead, ReadGives, FileGives, WordsGive, RunGives, FileFaults, InputFaults, OutputFaults, IsReplayable, IsReady, IsTaken, IsDoneOrMemory}
 
 -- the ends that what is taken may have
@@ -44,8 +45,8 @@ said_well text p ended.Memory g = tt
 -- a transcript that is taken whole has no other end
 other_end : (app : Shape) (p : Ports) (ready : IsReplayable app p.left) (end : ReplayEnd) → end ≢ done → ¬ Writes app p end
 other_end app p ready end other w =
-    let is = subst (λ left. IfSome left (λ bytes. replayed_today app bytes ≡ record { output = w.output; end = end })) ready.comes w.is in
-    other (sym (ap (λ r. r.end) is) ∙ ready.whole)
+    let is = subst (λ left. IfSome left (λ bytes. HasWritten w.output end (replayed_today app bytes))) ready.comes w.is in
+    other (sym is.ended ∙ ready.whole)
 
 replayed_well : (app : Shape) (p : Ports) (e : Ended) → IsReplayable app p.left → ReplayedGives app p e → IsDoneOrFault e
 replayed_well app p ended.Done ready g = tt

@@ -13,9 +13,9 @@ use Rattle.app_check.specs.declared.error.LoadError.{LoadError}
 use Rattle.app_check.specs.declared.error.LoadError.TheVariants as error
 use Rattle.app_check.specs.Load.{loaded, within_limit, is_short}
 use Rattle.flush_cycle.specs.Built.{first_unbuilt}
-use Rattle.session_model.specs.Transcript.{ReplayEnd, done, bad_line, no_session, Replayed, replay_from, replayed}
-use Rattle.session_model.specs.TakenLines.{taken_by, replayed_today}
-use Rattle.session_model.proofs.TakenReplay.{taken_is_whole}
+use Rattle.session_model.specs.Transcript.{ReplayEnd, done, bad_line, no_session, replayed}
+use Rattle.session_model.specs.TakenLines.{replayed_today}
+use Rattle.session_laws.proofs.TakenReplay.{taken_is_whole}
 use Rattle.shiny_main.specs.declared.words.Command.{Command}
 use Rattle.shiny_main.specs.declared.words.Command.TheVariants as command
 use Rattle.shiny_main.specs.declared.ended.Ended.{Ended}
@@ -24,48 +24,46 @@ use Rattle.shiny_main.specs.declared.transcript.Replayed.{Replayed as ReplayAnsw
 use Rattle.shiny_main.specs.declared.transcript.Replayed.TheVariants as answer
 use Rattle.shiny_main.specs.Ends.{ended_by, FileFaults}
 use Rattle.shiny_main.specs.Notes.{IsComposed}
-use Rattle.shiny_main.specs.Lines.{remaining}
-use Rattle.shiny_main.specs.Replaying.{Ends, Stops, ReplayGives as LinesGive}
+use Rattle.shiny_main.specs.SoFar.{HasWritten}
+use Rattle.shiny_main.specs.Replaying.{Ends, Stops, IsOutputOfFront, Leaves, ReplayGives as LinesGive}
 use Rattle.app_printer.specs.Canonical.{canonical_text}
-use Rattle.shiny_main.specs.Commands.{Ports, IsUntouched, Says, count_line, Writes, WritesWhole, WritesFront, ReplayedGives, RunsBuilt, CommandGives, AppGives}
+use Rattle.shiny_main.specs.Commands.{Ports, IsUntouched, Says, count_line, Writes, WritesWhole, WritesFront, IsOutputOfRead, WritesRead, ReplayedGives, RunsBuilt, CommandGives, AppGives}
 use Rattle.shiny_main.specs.Top.{IsRead, ReadGives, FileGives, WordsGive}
 
 -- ---- a replay, from its lines
 
-told_end : (app : Shape) (left : Option (List ℕ)) (r : Replayed) → IfSome (remaining [] left) (λ ls. replay_from app (taken_by app) 1 [] ls ≡ r) → IfSome left (λ bytes. replayed_today app bytes ≡ r)
-told_end app None r h = tt
-told_end app (Some bytes) r h = h
+writes : (app : Shape) (p : Ports) (end : ReplayEnd) → Ends app 1 [] p.left p.held p.held_after end → Writes app p end
+writes app p end h = record { output = h.output; sank = h.sank; is = h.is }
 
-told_front : (app : Shape) (left : Option (List ℕ)) (output : List ℕ) → IfSome (remaining [] left) (λ ls. (more : List ℕ) × ((replay_from app (taken_by app) 1 [] ls).output ≡ output ++ more))
-    → IfSome left (λ bytes. (more : List ℕ) × ((replayed_today app bytes).output ≡ output ++ more))
-told_front app None output h = tt
-told_front app (Some bytes) output h = h
+writes_front : (app : Shape) (p : Ports) → Stops app 1 [] p.left p.held p.held_after → WritesFront app p
+writes_front app p h = record { output = h.output; sank = h.sank; front = h.front }
 
-writes : (app : Shape) (p : Ports) (end : ReplayEnd) → Ends app 1 [] (remaining [] p.left) p.held p.held_after end → Writes app p end
-writes app p end h = record { output = h.output; sank = h.sank; is = told_end app p.left (record { output = h.output; end = end }) h.is }
-
-writes_front : (app : Shape) (p : Ports) → Stops app 1 [] (remaining [] p.left) p.held p.held_after → WritesFront app p
-writes_front app p h = record { output = h.output; sank = h.sank; front = told_front app p.left h.output h.front }
+writes_read : (app : Shape) (p : Ports) → Leaves app 1 [] p.left p.left_after p.held p.held_after → WritesRead app p
+writes_read app p h = record { output = h.output; sank = h.sank; is = by p.left h.is }
+  where
+    by : (left : Option (List ℕ)) → IfSome left (λ bytes. IsOutputOfFront app 1 [] bytes p.left_after h.output) → IfSome left (λ bytes. IsOutputOfRead app bytes p.left_after h.output)
+    by None is = tt
+    by (Some bytes) is = record { front = is.front; rest = is.rest; parted = is.parted; is_left = is.is_left; is = is.is }
 
 -- what is taken to its end has the same output as a whole
-whole_end : (app : Shape) (left : Option (List ℕ)) (output : List ℕ) → IfSome left (λ bytes. replayed_today app bytes ≡ record { output = output; end = done })
-    → IfSome left (λ bytes. replayed app bytes ≡ record { output = output; end = done })
+whole_end : (app : Shape) (left : Option (List ℕ)) (output : List ℕ) → IfSome left (λ bytes. HasWritten output done (replayed_today app bytes))
+    → IfSome left (λ bytes. HasWritten output done (replayed app bytes))
 whole_end app None output h = tt
-whole_end app (Some bytes) output h = taken_is_whole app bytes (ap (λ r. r.end) h) ∙ h
+whole_end app (Some bytes) output h = subst (HasWritten output done) (sym (taken_is_whole app bytes h.ended)) h
 
-taken_end : (app : Shape) (left : Option (List ℕ)) (output : List ℕ) → IfSome left (λ bytes. replayed_today app bytes ≡ record { output = output; end = done })
+taken_end : (app : Shape) (left : Option (List ℕ)) (output : List ℕ) → IfSome left (λ bytes. HasWritten output done (replayed_today app bytes))
     → IfSome left (λ bytes. (replayed_today app bytes).end ≡ done)
 taken_end app None output h = tt
-taken_end app (Some bytes) output h = ap (λ r. r.end) h
+taken_end app (Some bytes) output h = h.ended
 
 writes_whole : (app : Shape) (p : Ports) → Writes app p done → WritesWhole app p
 writes_whole app p w = record { output = w.output; sank = w.sank; is = whole_end app p.left w.output w.is; taken = taken_end app p.left w.output w.is }
 
-pub replayed_gives : (app : Shape) (p : Ports) (a : ReplayAnswer) → LinesGive app 1 [] (remaining [] p.left) p.left_after p.held p.held_after a → ReplayedGives app p (ended_by a)
+pub replayed_gives : (app : Shape) (p : Ports) (a : ReplayAnswer) → LinesGive app 1 [] p.left p.left_after p.held p.held_after a → ReplayedGives app p (ended_by a)
 replayed_gives app p answer.Done h = (writes_whole app p (writes app p done h.0), h.1)
 replayed_gives app p (answer.BadLine j) h = writes app p (bad_line j) h
 replayed_gives app p (answer.NoSession j) h = writes app p (no_session j) h
-replayed_gives app p answer.ReadFault h = writes_front app p h
+replayed_gives app p answer.ReadFault h = (writes_front app p h.0, writes_read app p h.1)
 replayed_gives app p answer.WriteFault h = writes_front app p h
 replayed_gives app p answer.Memory h = writes_front app p h
 
@@ -192,9 +190,9 @@ app_files c r p ended.Memory before now g = tt
 lines_front : (app : Shape) (p : Ports) (end : ReplayEnd) → Writes app p end → WritesFront app p
 lines_front app p end h = record { output = h.output; sank = h.sank; front = by p.left h.is }
   where
-    by : (left : Option (List ℕ)) → IfSome left (λ bytes. replayed_today app bytes ≡ record { output = h.output; end = end }) → IfSome left (λ bytes. (more : List ℕ) × ((replayed_today app bytes).output ≡ h.output ++ more))
+    by : (left : Option (List ℕ)) → IfSome left (λ bytes. HasWritten h.output end (replayed_today app bytes)) → IfSome left (λ bytes. (more : List ℕ) × ((replayed_today app bytes).output ≡ h.output ++ more))
     by None is = tt
-    by (Some bytes) is = ([], ap (λ r. r.output) is ∙ sym (append-nil h.output))
+    by (Some bytes) is = ([], is.wrote ∙ sym (append-nil h.output))
 
 built_memory : (unbuilt : Option ℕ) (app : Shape) (p : Ports) (e : Ended) → IsComposed e → RunsBuilt unbuilt app p e → RunsBuilt unbuilt app p ended.Memory
 built_memory None app p ended.Done c g = absurd c

@@ -1,6 +1,8 @@
-pub mod Utf8Tests
+pub mod SpokenLines
 pub mod Feeds
-pub mod LineSteps
+pub mod PieceSteps
+pub mod LineReads
+pub mod PastLimit
 pub mod Answering
 pub mod Taking
 pub mod Turns

@@ -9,17 +9,17 @@ use Rattle.shiny_json.specs.declared.message.Pair.{Pair}
 use Rattle.session_model.specs.declared.event.Event.{Event}
 use Rattle.session_model.specs.declared.event.Event.TheVariants as event
 use Rattle.session_model.specs.declared.event.Event.TheVariants.{Text}
-use Rattle.session_model.specs.Alone.{Ending, spent, ending, course_of}
-use Rattle.session_model.specs.Transcript.{Line, recv, ends, closes, Open, opened, with_event, event_output, text_bytes, is_full, is_over, Rest, after_output, stepped, step_by, taken, received, replay_line}
+use Rattle.session_model.specs.Alone.{Ending, budget_spent, ending, journal_result}
+use Rattle.session_model.specs.Transcript.{Line, recv, ends_of, Open, opened, with_event, event_output, is_over, Replayed, Rest, after_output, stepped, step_by, open_or_new, taken_by_open, goes_by, replay_line}
+use Rattle.session_model.specs.Journal.{text_bytes, is_full}
 use Rattle.session_model.specs.TakenLines.{line_count_limit, is_first, is_of_one, is_taken, taken_pairs, taken_line}
-use Rattle.session_model.proofs.TakenReplay.{taken_init, taken_update, taken_short}
+use Rattle.session_laws.proofs.TakenReplay.{taken_init, taken_update, taken_short}
 use Rattle.flush_cycle.specs.declared.stage.Stage.{Stage}
 use Rattle.flush_cycle.specs.declared.stage.Stage.TheVariants as stage
 use Rattle.shiny_main.specs.declared.replay.Taken.{Taken}
 use Rattle.shiny_main.specs.declared.replay.Taken.TheVariants as code
 use Rattle.shiny_main.specs.declared.session.OpenSession.{OpenSession}
 use Rattle.shiny_main.specs.declared.session.Answered.{Answered}
-use Rattle.shiny_main.specs.Messages.{message_of}
 use Rattle.shiny_main.specs.Replaying.{EndsSo, HoldsOpen, IsShort, AnswersFirst, AnswersLater, Updates, TakesLine, GoesOn}
 
 -- ---- how full a journal is
@@ -94,24 +94,28 @@ module _ (app : Shape) (k : ℕ) (s : Open) (label text : List ℕ) (pairs : Lis
   its_line : taken_line app k (s ∷ []) (Some (recv label text)) ≡ Some (recv label text)
   its_line = said_is app k (s ∷ []) label text pairs within (ap (λ b. b && true) its_name) form
 
-  its_session : (next : Rest) → replay_line app k (s ∷ []) (taken_line app k (s ∷ []) (Some (recv label text))) next ≡ taken app k (s ∷ []) (Text text) s (is_over app s) next
+  -- what becomes of the line by whether the session is over
+  abbrev taken_if : Bool → Rest → Replayed
+  taken_if over next = goes_by app (s ∷ []) (taken_by_open k (Text text) (if over then None else Some s)) next
+
+  its_session : (next : Rest) → replay_line app k (s ∷ []) (taken_line app k (s ∷ []) (Some (recv label text))) next ≡ taken_if (is_over app s) next
   its_session next =
       ap (λ o. replay_line app k (s ∷ []) o next) its_line
-      ∙ ap (λ b. received app k (s ∷ []) (Text text) label (if b then Some s else None) next) its_name
+      ∙ ap (λ b. goes_by app (s ∷ []) (taken_by_open k (Text text) (open_or_new app label (s ∷ []) (if b then Some s else None))) next) its_name
 
   pub later_goes : (session : OpenSession) (answered : Answered) → HoldsOpen app s session → IsShort k s → session.flusher.stage ≡ stage.Open → AnswersLater session pairs answered
       → GoesOn app k (s ∷ []) (taken_line app k (s ∷ []) (Some (recv label text))) answered
   later_goes session answered holds short at answers =
       let answer = answers app s text holds at (taken_update app text pairs form) in
       let after = with_event (Text text) s in
-      let none : ending app s.journal ≡ None = subst (λ b. EndsSo b (course_of app s.journal).ending) at holds.ending in
+      let none : ending app s.journal ≡ None = subst (λ b. EndsSo b (journal_result app s.journal).ending) at holds.ending in
       let open_ : is_over app s ≡ false = ap (λ b. b || is_some (ending app s.journal)) holds.goes_on ∙ ap is_some none in
       record {
         within = within;
         after = after;
         holds = answer.holds;
         short = short_after k s text within short.few short.short (taken_short app false text pairs form);
-        is = λ next. its_session next ∙ ap (λ b. taken app k (s ∷ []) (Text text) s b next) open_
+        is = λ next. its_session next ∙ ap (λ b. taken_if b next) open_
             ∙ ap (λ b. stepped (s ∷ []) (step_by b app (Text text) s) next) (not_full k s short)
             ∙ ap (λ b. after_output (event_output app (Text text) s) (next (if b then after ∷ [] else s ∷ after ∷ []))) (same_bytes s.label)
             ∙ ap (λ o. after_output o (next (after ∷ []))) (sym answer.output);
@@ -120,9 +124,9 @@ module _ (app : Shape) (k : ℕ) (s : Open) (label text : List ℕ) (pairs : Lis
   pub later_over : (end : Ending) → ending app s.journal ≡ Some end → s.full ≡ false → TakesLine app k (s ∷ []) (taken_line app k (s ∷ []) (Some (recv label text))) code.NoSession
   later_over end e full =
       let over : is_over app s ≡ true = ap (λ b. b || is_some (ending app s.journal)) full ∙ ap is_some e in
-      λ next. its_session next ∙ ap (λ b. taken app k (s ∷ []) (Text text) s b next) over
+      λ next. its_session next ∙ ap (λ b. taken_if b next) over
 
-over_is : (at : Stage) (end : Option Ending) → EndsSo at end → (at ≡ stage.Open → ⊥) → end ≡ Some spent
+over_is : (at : Stage) (end : Option Ending) → EndsSo at end → (at ≡ stage.Open → ⊥) → end ≡ Some budget_spent
 over_is stage.New end e h = absurd e
 over_is stage.Open end e h = absurd (h refl)
 over_is stage.Over end e h = e
@@ -132,14 +136,12 @@ pub later_takes : (app : Shape) (k : ℕ) (s : Open) (session : OpenSession) (la
 later_takes app k s session label text pairs (code.Answered answered) within same form holds short u = later_goes app k s label text pairs within same form session answered holds short u.0 u.1
 later_takes app k s session label text pairs code.Bad within same form holds short u = absurd u
 later_takes app k s session label text pairs code.NoSession within same form holds short u =
-    later_over app k s label text pairs within same form spent (over_is session.flusher.stage (ending app s.journal) holds.ending u) holds.goes_on
+    later_over app k s label text pairs within same form budget_spent (over_is session.flusher.stage (ending app s.journal) holds.ending u) holds.goes_on
 
--- what is taken of a line is what is taken of its message
-pub taken_message : (app : Shape) (k : ℕ) (sessions : List Open) (o : Option Line) → taken_line app k sessions o ≡ taken_line app k sessions (message_of o)
-taken_message app k sessions None = refl
-taken_message app k sessions (Some (recv label text)) = refl
-taken_message app k sessions (Some (ends label t)) = refl
-taken_message app k sessions (Some (closes label)) = refl
+-- an end or a close is not taken today
+pub no_end_taken : (app : Shape) (k : ℕ) (sessions : List Open) (label : List ℕ) (task : Option ℕ) → taken_line app k sessions (ends_of label task) ≡ None
+no_end_taken app k sessions label None = refl
+no_end_taken app k sessions label (Some t) = refl
 
 pub if_ok : {A E : Type 0} (P Q : A → Type 0) (r : Result A E) → ((a : A) → P a → Q a) → IfOk r P → IfOk r Q
 if_ok P Q (Ok a) h p = h a p

@@ -4,10 +4,8 @@ use Rattle.std.specs.Prelude.{String}
 use Rattle.std.specs.declared.alloc.Global.{Global}
 use Rattle.rx_ports.specs.declared.files.NamedFile.{NamedFile}
 use Rattle.shiny_main.specs.declared.status.Status.{Status}
-use Rattle.shiny_main.specs.declared.status.Status.TheVariants as status
 use Rattle.shiny_main.specs.declared.ended.Ended.{Ended}
 use Rattle.shiny_main.specs.declared.ended.Ended.TheVariants as ended
-use Rattle.shiny_main.specs.Ends as ends
 use Rattle.shiny_main.specs.Words.{words_of}
 use Rattle.shiny_main.specs.Notes.{file_of, IsNoted, Tells}
 use Rattle.shiny_main.specs.Commands.{Ports}

@@ -1,186 +1,277 @@
 -- One line of a replay, and its end, from the code's answers to the definition's replay.
-use Rattle.std.proofs.Common.{◌≡◌, ℕ, suc, ◌<◌, true, false, ◌&&◌, List, [], ◌∷◌, ◌++◌, length, take, drop, Option, Some, None, IfSome, Result, Ok, Err, IfOk, refl, sym, ap, ◌∙◌, subst, arith, append_assoc, append-nil, take-append-drop}
-use Rattle.std.specs.Prelude.{◌||◌, nat_le, is_some, codes, if◌then◌else◌}
-use Rattle.std.proofs.lemmas.Bool.Decides.{nat_tests}
-use Rattle.std.specs.Option.{option_map}
-use Rattle.std.specs.Str.{is_utf8}
-use Rattle.std.specs.Io.KnownBytes.{append_known, IsAtEnd}
+use Rattle.std.proofs.Common.{◌≡◌, ℕ, suc, ◌+◌, ◌<◌, ◌≤◌, Bool, true, false, List, [], ◌∷◌, ◌++◌, length, take, drop, Option, Some, None, IfSome, Result, Ok, Err, IfOk, refl, sym, ap, ◌∙◌, subst, arith, append_assoc, append-nil, take-append-drop, inl, inr}
+use Rattle.std.specs.Prelude.{◌||◌, ◌⊎◌, ◌==◌, is_some, codes, if◌then◌else◌}
+use Rattle.std.specs.Io.KnownBytes.{prepend_known, append_known, IsAtEnd}
 use Rattle.app_tree.specs.Tree.{Shape}
 use Rattle.session_model.specs.declared.event.Event.TheVariants.{End}
-use Rattle.session_model.specs.Alone.{Course, ended, spent, effect_from, effect_texts, course_after, ending, course_of}
-use Rattle.session_model.specs.Transcript.{Open, with_event, event_output, over_line, added_texts, is_over, step_by, parts_of, ReplayEnd, done, bad_line, no_session, Replayed, Rest, stopped, after_output, closing_output, all_closed, replay_line, replay_from}
+use Rattle.session_model.specs.Alone.{JournalResult, ended, budget_spent, effect_from, effect_texts, result_after, ending, journal_result}
+use Rattle.session_model.specs.Transcript.{transcript_limit, Open, with_event, event_output, over_line, added_texts, is_over, step_by, ReplayEnd, done, bad_line, no_session, Replayed, Rest, stopped, closed_by, all_closed, replay_line, replay_from}
 use Rattle.session_model.specs.TakenLines.{taken_line, taken_by}
-use Rattle.session_model.specs.Lines.{line_limit}
-use Rattle.session_model.specs.Output.{send_lines, over_text}
-use Rattle.session_model.proofs.Journals.{course_of-more, added_texts-more}
+use Rattle.session_model.specs.Lines.{HasNoFeed, lines_of}
+use Rattle.session_model.specs.WrittenLines.{send_lines, over_text}
+use Rattle.session_laws.proofs.Journals.{journal_result-more, added_texts-more}
 use Rattle.flush_cycle.specs.declared.stage.Stage.{Stage}
 use Rattle.flush_cycle.specs.declared.stage.Stage.TheVariants as stage
 use Rattle.shiny_main.specs.declared.session.OpenSession.{OpenSession}
 use Rattle.shiny_main.specs.declared.session.Answered.{Answered}
 use Rattle.rx_value.specs.declared.memory.Memory.{Memory}
+use Rattle.shiny_main.specs.declared.line.Line.{Line}
 use Rattle.shiny_main.specs.declared.replay.Taken.{Taken}
 use Rattle.shiny_main.specs.declared.replay.Taken.TheVariants as taken
 use Rattle.shiny_main.specs.declared.transcript.Replayed.{Replayed as ReplayAnswer}
 use Rattle.shiny_main.specs.declared.transcript.Replayed.TheVariants as answer
 use Rattle.shiny_main.specs.declared.transcript.Turn.{Turn}
 use Rattle.shiny_main.specs.declared.transcript.Turn.TheVariants as turn
-use Rattle.shiny_main.specs.Lines.{BeginsTooLong}
-use Rattle.shiny_main.specs.Replaying.{EndsSo, HoldsOpen, IsShort, HoldsSession, GoesOn, TakesLine, PutsAnswer, PutsOver, ClosesAt, Closes, Ends, Stops, ReplayGives, TurnGives, AnswersTaken}
+use Rattle.shiny_main.specs.Spoken.{spoken, numbered}
+use Rattle.shiny_main.specs.Pieces.{BeginsWith, Breaks}
+use Rattle.shiny_main.specs.Lines.{LinesState, coming, first_size, BeginsBad, BeginsSaying}
+use Rattle.shiny_main.specs.SoFar.{HasWritten, on_first, whole_lines, so_far_from}
+use Rattle.shiny_main.specs.Replaying.{EndsSo, HoldsOpen, IsShort, HoldsSession, GoesOn, TakesLine, PutsAnswer, PutsOver, ClosesAt, Closes, Ends, Stops, IsOutputOfFront, ReplayGives, NotEnded, TurnGives, HasFewBehind, AnswersTaken}
+use Rattle.shiny_main.proofs.SpokenLines.{spoken-over, spoken-short, line_by-spoken}
+use Rattle.shiny_main.proofs.LineReads.{told, if_some}
 use Rattle.shiny_main.proofs.Taking.{not_full}
 
 pub nothing_put : (held : Option (List ℕ)) → held ≡ append_known held []
 nothing_put None = refl
 nothing_put (Some xs) = ap Some (sym (append-nil xs))
 
+-- a replay that is this one has written so
+pub written_by : {r q : Replayed} → r ≡ q → HasWritten q.output q.end r
+written_by e = record { wrote = ap (λ (x : Replayed). x.output) e; ended = ap (λ (x : Replayed). x.end) e }
+
 -- ---- lines that are refused
 
-refused_told : (app : Shape) (k : ℕ) (s : List Open) (line : List ℕ) (end : ReplayEnd) (rest : Option (List (List ℕ)))
-    → ((next : Rest) → replay_line app k s (taken_by app k s line) next ≡ stopped end)
-    → IfSome (option_map (λ lines. line ∷ lines) rest) (λ ls. replay_from app (taken_by app) k s ls ≡ record { output = []; end = end })
-refused_told app k s line end None h = tt
-refused_told app k s line end (Some ls) h = h (λ next. replay_from app (taken_by app) (suc k) next ls)
+-- the line that stands first is taken so
+line_first : (app : Shape) (k : ℕ) (s : List Open) (line bytes : List ℕ) (others : List (List ℕ)) → lines_of bytes ≡ line ∷ others
+    → replay_from app (taken_by app) k s (lines_of bytes) ≡ replay_line app k s (taken_by app k s line) (λ next. replay_from app (taken_by app) (suc k) next others)
+line_first app k s line bytes others e = ap (replay_from app (taken_by app) k s) e
 
-pub line_refused : (app : Shape) (k : ℕ) (s : List Open) (line : List ℕ) (end : ReplayEnd) (lines rest : Option (List (List ℕ))) (held : Option (List ℕ))
-    → lines ≡ option_map (λ ls. line ∷ ls) rest → ((next : Rest) → replay_line app k s (taken_by app k s line) next ≡ stopped end) → Ends app k s lines held held end
-line_refused app k s line end lines rest held e h = record {
-  output = [];
-  sank = nothing_put held;
-  is = subst (λ o. IfSome o (λ ls. replay_from app (taken_by app) k s ls ≡ record { output = []; end = end })) (sym e) (refused_told app k s line end rest h);
-}
+pub line_refused : (app : Shape) (k : ℕ) (s : List Open) (line : List ℕ) (feed : Bool) (end : ReplayEnd) (bytes rest held : Option (List ℕ))
+    → BeginsWith line feed bytes rest → ((next : Rest) → replay_line app k s (taken_by app k s line) next ≡ stopped s end) → Ends app k s bytes held held end
+line_refused app k s line feed end bytes rest held b h =
+    let P : List ℕ → Type 0 = λ bs. HasWritten [] end (replay_from app (taken_by app) k s (lines_of bs)) in
+    record {
+      output = [];
+      sank = nothing_put held;
+      is = if_some P bytes
+          (λ bs e. let t = told line feed bs rest (subst (λ o. BeginsWith line feed o rest) e b) in written_by (line_first app k s line bs (lines_of t.rest) t.lines ∙ h (λ next. replay_from app (taken_by app) (suc k) next (lines_of t.rest))));
+    }
 
-too_long_line : (app : Shape) (k : ℕ) (s : List Open) (line : List ℕ) → line_limit < length line → taken_by app k s line ≡ None
-too_long_line app k s line lt =
-    let long : nat_le (length line) line_limit ≡ false = grind (arith, nat_tests) in
-    ap (λ b. taken_line app k s (if b && is_utf8 line then parts_of app.items line else None)) long
+unspoken : (app : Shape) (k : ℕ) (s : List Open) (line : List ℕ) → spoken line ≡ None → taken_by app k s line ≡ None
+unspoken app k s line e = ap (taken_line app k s) (line_by-spoken app.items line None e)
 
-too_long_told : (app : Shape) (k : ℕ) (s : List Open) (lines : Option (List (List ℕ))) → IfSome lines BeginsTooLong → IfSome lines (λ ls. replay_from app (taken_by app) k s ls ≡ record { output = []; end = bad_line k })
-too_long_told app k s None h = tt
-too_long_told app k s (Some []) h = absurd h
-too_long_told app k s (Some (line ∷ ls)) h = ap (λ o. replay_line app k s o (λ next. replay_from app (taken_by app) (suc k) next ls)) (too_long_line app k s line h)
+size_within : (line bytes : List ℕ) → first_size line bytes ≤ suc (length line)
+size_within line bytes = omega arith
 
-pub too_long_refused : (app : Shape) (k : ℕ) (s : List Open) (lines : Option (List (List ℕ))) (held : Option (List ℕ)) → IfSome lines BeginsTooLong → Ends app k s lines held held (bad_line k)
-too_long_refused app k s lines held h = record { output = []; sank = nothing_put held; is = too_long_told app k s lines h }
+-- so few lines stand before it that a line has no form where the transcript goes past its limit in it
+bad_unspoken : (lines : LinesState) (line bytes : List ℕ) → HasFewBehind lines → (spoken line ≡ None) ⊎ (transcript_limit < lines.behind + first_size line bytes) → spoken line ≡ None
+bad_unspoken lines line bytes short bad = elim bad as (λ _. spoken line ≡ None) [
+  | inl none ↦ none
+  | inr past ↦
+      let few = short.0 in let small = short.1 in let size = size_within line bytes in
+      spoken-over line (omega (arith, few, small, size, past))
+]
+
+pub bad_refused : (app : Shape) (s : List Open) (lines : LinesState) (bytes held : Option (List ℕ)) → HasFewBehind lines → IfSome bytes (BeginsBad lines.behind) → Ends app lines.number s bytes held held (bad_line lines.number)
+bad_refused app s lines bytes held short bad =
+    let k = lines.number in
+    let P : List ℕ → Type 0 = λ bs. HasWritten [] (bad_line k) (replay_from app (taken_by app) k s (lines_of bs)) in
+    let of_bad : (bs : List ℕ) → BeginsBad lines.behind bs → P bs =
+    λ bs b. written_by (line_first app k s b.line bs b.others b.first ∙ ap (λ o. replay_line app k s o (λ next. replay_from app (taken_by app) (suc k) next b.others)) (unspoken app k s b.line (bad_unspoken lines b.line bs short b.bad))) in
+    record { output = []; sank = nothing_put held; is = if_some P bytes (λ bs e. of_bad bs (subst (λ o. IfSome o (BeginsBad lines.behind)) e bad)) }
 
 -- ---- a line that is answered
 
-went_told : (app : Shape) (k : ℕ) (s : List Open) (line : List ℕ) (answered : Answered) (rest : Option (List (List ℕ))) → (g : GoesOn app k s (taken_by app k s line) answered)
-    → option_map (replay_from app (taken_by app) k s) (option_map (λ lines. line ∷ lines) rest) ≡ option_map (λ ls. after_output answered.output (replay_from app (taken_by app) (suc k) (g.after ∷ []) ls)) rest
-went_told app k s line answered None g = refl
-went_told app k s line answered (Some ls) g = ap Some (g.is (λ next. replay_from app (taken_by app) (suc k) next ls))
-
-front_told : (app : Shape) (k : ℕ) (s : List Open) (line : List ℕ) (answered : Answered) (count : ℕ) (rest : Option (List (List ℕ))) → GoesOn app k s (taken_by app k s line) answered
-    → IfSome (option_map (λ lines. line ∷ lines) rest) (λ ls. (more : List ℕ) × ((replay_from app (taken_by app) k s ls).output ≡ take count answered.output ++ more))
-front_told app k s line answered count None g = tt
-front_told app k s line answered count (Some ls) g =
+front_told : (app : Shape) (k : ℕ) (s : List Open) (line bytes : List ℕ) (others : List (List ℕ)) (answered : Answered) (count : ℕ) → lines_of bytes ≡ line ∷ others → GoesOn app k s (taken_by app k s line) answered
+    → (more : List ℕ) × ((replay_from app (taken_by app) k s (lines_of bytes)).output ≡ take count answered.output ++ more)
+front_told app k s line bytes others answered count e g =
     let out = answered.output in
-    let later = (replay_from app (taken_by app) (suc k) (g.after ∷ []) ls).output in
-    (drop count out ++ later, ap (λ (r : Replayed). r.output) (g.is (λ next. replay_from app (taken_by app) (suc k) next ls)) ∙ ap (λ l. l ++ later) (sym (take-append-drop count out)) ∙ append_assoc (take count out) (drop count out) later)
+    let later = (replay_from app (taken_by app) (suc k) (g.after ∷ []) others).output in (
+      drop count out ++ later,
+      ap (λ (r : Replayed). r.output) (line_first app k s line bytes others e ∙ g.is (λ next. replay_from app (taken_by app) (suc k) next others)) ∙ ap (λ l. l ++ later) (sym (take-append-drop count out))
+          ∙ append_assoc (take count out) (drop count out) later,
+    )
 
-pub answer_put : (app : Shape) (k : ℕ) (s : List Open) (line : List ℕ) (answered : Answered) (lines rest : Option (List (List ℕ))) (left before after : Option (List ℕ)) (t : Turn)
-    → lines ≡ option_map (λ ls. line ∷ ls) rest → GoesOn app k s (taken_by app k s line) answered → PutsAnswer answered before after t → TurnGives app k s lines rest left before after t
-answer_put app k s line answered lines rest left before after (turn.Goes code) e g p =
-    let went : option_map (replay_from app (taken_by app) k s) lines ≡ option_map (λ ls. after_output answered.output (replay_from app (taken_by app) (suc k) (g.after ∷ []) ls)) rest =
-    ap (option_map (replay_from app (taken_by app) k s)) e ∙ went_told app k s line answered rest g in
-    record { within = g.within; next = g.after; holds = subst (HoldsOpen app g.after) (sym p.0) g.holds; short = g.short; output = answered.output; sank = p.1; is = went }
-answer_put app k s line answered lines rest left before after (turn.Ends answer.WriteFault) e g p = record {
-  output = take p.count answered.output;
-  sank = p.front;
-  front = subst (λ o. IfSome o (λ ls. (more : List ℕ) × ((replay_from app (taken_by app) k s ls).output ≡ take p.count answered.output ++ more))) (sym e) (front_told app k s line answered p.count rest g);
-}
-answer_put app k s line answered lines rest left before after (turn.Ends answer.Done) e g p = absurd p
-answer_put app k s line answered lines rest left before after (turn.Ends (answer.BadLine j)) e g p = absurd p
-answer_put app k s line answered lines rest left before after (turn.Ends (answer.NoSession j)) e g p = absurd p
-answer_put app k s line answered lines rest left before after (turn.Ends answer.ReadFault) e g p = absurd p
-answer_put app k s line answered lines rest left before after (turn.Ends answer.Memory) e g p = absurd p
+-- what of a line was said
+pub said_by_bytes : (app : Shape) (k : ℕ) (s : List Open) (line : List ℕ) (said : Line) → spoken line ≡ Some said → taken_by app k s line ≡ taken_line app k s (numbered app.items said)
+said_by_bytes app k s line said e = ap (taken_line app k s) (line_by-spoken app.items line (Some said) e)
+
+module _ (app : Shape) (s : List Open) (said : Line) (lines rest : LinesState) (left left_after : Option (List ℕ)) (b : BeginsSaying said lines rest left left_after) where
+  pub answer_put : (answered : Answered) (before after : Option (List ℕ)) (t : Turn) → GoesOn app lines.number s (taken_by app lines.number s b.line) answered → PutsAnswer answered before after t
+      → TurnGives app s lines rest left left_after before after t
+  answer_put answered before after (turn.Goes code) g p = record {
+    within = g.within;
+    next = g.after;
+    holds = subst (HoldsOpen app g.after) (sym p.0) g.holds;
+    short = subst (λ k. IsShort k g.after) (sym b.number) g.short;
+    output = answered.output;
+    sank = p.1;
+    line = b.line;
+    feed = b.feed;
+    begins = b.begins;
+    few = spoken-short b.line said b.says;
+    number = b.number;
+    behind = b.behind;
+    ended = b.ended;
+    is = g.is;
+  }
+  answer_put answered before after (turn.Ends answer.WriteFault) g p =
+      let k = lines.number in
+      let P : List ℕ → Type 0 = λ bs. (more : List ℕ) × ((replay_from app (taken_by app) k s (lines_of bs)).output ≡ take p.count answered.output ++ more) in (
+        record {
+          output = take p.count answered.output;
+          sank = p.front;
+          front = if_some P (coming lines left)
+              (λ bs e. let t = told b.line b.feed bs (coming rest left_after) (subst (λ o. BeginsWith b.line b.feed o (coming rest left_after)) e b.begins) in front_told app k s b.line bs (lines_of t.rest) answered p.count t.lines g);
+        },
+        tt,
+      )
+  answer_put answered before after (turn.Ends answer.Done) g p = absurd p
+  answer_put answered before after (turn.Ends (answer.BadLine j)) g p = absurd p
+  answer_put answered before after (turn.Ends (answer.NoSession j)) g p = absurd p
+  answer_put answered before after (turn.Ends answer.ReadFault) g p = absurd p
+  answer_put answered before after (turn.Ends answer.Memory) g p = absurd p
 
 -- ---- a fault
 
-all_front : (app : Shape) (k : ℕ) (s : List Open) (lines : Option (List (List ℕ))) → IfSome lines (λ ls. (more : List ℕ) × ((replay_from app (taken_by app) k s ls).output ≡ [] ++ more))
+all_front : (app : Shape) (k : ℕ) (s : List Open) (bytes : Option (List ℕ)) → IfSome bytes (λ bs. (more : List ℕ) × ((replay_from app (taken_by app) k s (lines_of bs)).output ≡ [] ++ more))
 all_front app k s None = tt
-all_front app k s (Some ls) = ((replay_from app (taken_by app) k s ls).output, refl)
+all_front app k s (Some bs) = ((replay_from app (taken_by app) k s (lines_of bs)).output, refl)
 
 -- nothing more was written
-pub stops_here : (app : Shape) (k : ℕ) (s : List Open) (lines : Option (List (List ℕ))) (before after : Option (List ℕ)) → after ≡ before → Stops app k s lines before after
-stops_here app k s lines before after e = record { output = []; sank = e ∙ nothing_put before; front = all_front app k s lines }
+pub stops_here : (app : Shape) (k : ℕ) (s : List Open) (bytes before after : Option (List ℕ)) → after ≡ before → Stops app k s bytes before after
+stops_here app k s bytes before after e = record { output = []; sank = e ∙ nothing_put before; front = all_front app k s bytes }
+
+no_feed_byte : (b : ℕ) (more : List (List ℕ)) → (b == 10) ≡ false → (if b == 10 then [] ∷ more else on_first b more) ≡ on_first b more
+no_feed_byte b more e = ap (λ t. if t then [] ∷ more else on_first b more) e
+
+pub whole_lines-feed : (line rest : List ℕ) → HasNoFeed line → whole_lines (line ++ 10 ∷ rest) ≡ line ∷ whole_lines rest
+whole_lines-feed [] rest h = refl
+whole_lines-feed (b ∷ line) rest h = no_feed_byte b _ h.0 ∙ ap (on_first b) (whole_lines-feed line rest h.1)
+
+pub whole_lines-none : (line : List ℕ) → HasNoFeed line → whole_lines line ≡ []
+whole_lines-none [] h = refl
+whole_lines-none (b ∷ line) h = no_feed_byte b _ h.0 ∙ ap (on_first b) (whole_lines-none line h.1)
+
+front_left : (app : Shape) (k : ℕ) (s : List Open) (bytes : List ℕ) (left : Option (List ℕ)) (begun : List ℕ) → HasNoFeed begun → Some bytes ≡ prepend_known begun left → IsOutputOfFront app k s bytes left []
+front_left app k s bytes None begun h e = absurd cc
+front_left app k s bytes (Some rest) begun h e =
+    let parted : bytes ≡ begun ++ rest = cc in
+    record { front = begun; rest = rest; parted = parted; is_left = refl; is = written_by (ap (so_far_from app (taken_by app) k s) (whole_lines-none begun h)) }
+
+-- the source failed within a line
+pub fault_leaves : (app : Shape) (k : ℕ) (s : List Open) (most : ℕ) (bytes left held : Option (List ℕ)) → Breaks most bytes left → ReplayGives app k s bytes left held held answer.ReadFault
+fault_leaves app k s most bytes left held b = (
+  stops_here app k s bytes held held refl,
+  record { output = []; sank = nothing_put held; is = if_some (λ bs. IsOutputOfFront app k s bs left []) bytes (λ bs e. front_left app k s bs left b.begun b.no_feed (sym e ∙ b.is)) },
+)
 
 -- ---- the end of the input
 
 ended_output : (app : Shape) (s : Open) → ending app s.journal ≡ None → event_output app End s ≡ over_text s.label (codes "ended")
 ended_output app s none =
-    let course = course_of app s.journal in
+    let course = journal_result app s.journal in
     let quiet : added_texts app s.label s.journal (with_event End s).journal ≡ [] = added_texts-more app s.label s.journal End ∙ ap (λ o. effect_texts app s.label (effect_from app course o End)) none in
-    let over : ending app (with_event End s).journal ≡ Some ended = ap (λ (c : Course). c.ending) (course_of-more app s.journal End ∙ ap (λ o. course_after course course.items (effect_from app course o End)) none) in
+    let over : ending app (with_event End s).journal ≡ Some ended = ap (λ (c : JournalResult). c.ending) (journal_result-more app s.journal End ∙ ap (λ o. result_after course course.items (effect_from app course o End)) none) in
     ap (λ l. send_lines s.label l ++ over_line s.label (ending app (with_event End s).journal)) quiet ∙ ap (over_line s.label) over
 
-closed_is : (app : Shape) (k : ℕ) (s : List Open) (lines : Option (List (List ℕ))) (output : List ℕ) → IfSome lines (λ ls. ls ≡ []) → all_closed app s ≡ output
-    → IfSome lines (λ ls. replay_from app (taken_by app) k s ls ≡ record { output = output; end = done })
+closed_is : (app : Shape) (k : ℕ) (s : List Open) (bytes : Option (List ℕ)) (output : List ℕ) → IsAtEnd bytes → HasWritten output done (all_closed app s)
+    → IfSome bytes (λ bs. HasWritten output done (replay_from app (taken_by app) k s (lines_of bs)))
 closed_is app k s None output none e = tt
-closed_is app k s (Some ls) output none e = ap (replay_from app (taken_by app) k s) none ∙ ap (λ l. let r : Replayed = record { output = l; end = done } in r) e
+closed_is app k s (Some bs) output none e = subst (λ l. HasWritten output done (replay_from app (taken_by app) k s (lines_of l))) (sym none) e
 
-closed_front : (app : Shape) (k : ℕ) (s : List Open) (lines : Option (List (List ℕ))) (output : List ℕ) (count : ℕ) → IfSome lines (λ ls. ls ≡ []) → all_closed app s ≡ output
-    → IfSome lines (λ ls. (more : List ℕ) × ((replay_from app (taken_by app) k s ls).output ≡ take count output ++ more))
+closed_front : (app : Shape) (k : ℕ) (s : List Open) (bytes : Option (List ℕ)) (output : List ℕ) (count : ℕ) → IsAtEnd bytes → HasWritten output done (all_closed app s)
+    → IfSome bytes (λ bs. (more : List ℕ) × ((replay_from app (taken_by app) k s (lines_of bs)).output ≡ take count output ++ more))
 closed_front app k s None output count none e = tt
-closed_front app k s (Some ls) output count none e = (drop count output, ap (λ (r : Replayed). r.output) (ap (replay_from app (taken_by app) k s) none) ∙ e ∙ sym (take-append-drop count output))
+closed_front app k s (Some bs) output count none e = (drop count output, ap (λ (r : Replayed). r.output) (ap (λ l. replay_from app (taken_by app) k s (lines_of l)) none) ∙ e.wrote ∙ sym (take-append-drop count output))
 
-closed_open : (app : Shape) (k : ℕ) (s : Open) → IsShort k s → s.full ≡ false → ending app s.journal ≡ None → all_closed app (s ∷ []) ≡ over_text s.label (codes "ended")
+closed_open : (app : Shape) (k : ℕ) (s : Open) → IsShort k s → s.full ≡ false → ending app s.journal ≡ None → HasWritten (over_text s.label (codes "ended")) done (all_closed app (s ∷ []))
 closed_open app k s short full none =
     let open_ : is_over app s ≡ false = ap (λ b. b || is_some (ending app s.journal)) full ∙ ap is_some none in
-    append-nil (closing_output app s (is_over app s)) ∙ ap (closing_output app s) open_ ∙ ap (λ b. (step_by b app End s).output) (not_full k s short) ∙ ended_output app s none
+    record {
+      wrote = append-nil (closed_by (is_over app s) app s).output ∙ ap (λ b. (closed_by b app s).output) open_ ∙ ap (λ b. (step_by b app End s).output) (not_full k s short) ∙ ended_output app s none;
+      ended = refl;
+    }
 
-closed_over : (app : Shape) (s : Open) → s.full ≡ false → ending app s.journal ≡ Some spent → all_closed app (s ∷ []) ≡ []
+closed_over : (app : Shape) (s : Open) → s.full ≡ false → ending app s.journal ≡ Some budget_spent → HasWritten [] done (all_closed app (s ∷ []))
 closed_over app s full e =
     let over : is_over app s ≡ true = ap (λ b. b || is_some (ending app s.journal)) full ∙ ap is_some e in
-    append-nil (closing_output app s (is_over app s)) ∙ ap (closing_output app s) over
+    record { wrote = append-nil (closed_by (is_over app s) app s).output ∙ ap (λ b. (closed_by b app s).output) over; ended = refl }
 
 -- nothing is put at the end
-quiet_end : (app : Shape) (k : ℕ) (s : List Open) (lines : Option (List (List ℕ))) (left before after : Option (List ℕ)) (a : ReplayAnswer) → IfSome lines (λ ls. ls ≡ []) → IsAtEnd left
-    → all_closed app s ≡ [] → (after ≡ before) × (a ≡ answer.Done) → ReplayGives app k s lines left before after a
-quiet_end app k s lines left before after a none end e c =
-    subst (ReplayGives app k s lines left before after) (sym c.1) (record { output = []; sank = c.0 ∙ nothing_put before; is = closed_is app k s lines [] none e }, end)
+quiet_end : (app : Shape) (k : ℕ) (s : List Open) (bytes left before after : Option (List ℕ)) (a : ReplayAnswer) → IsAtEnd bytes → IsAtEnd left
+    → HasWritten [] done (all_closed app s) → (after ≡ before) × (a ≡ answer.Done) → ReplayGives app k s bytes left before after a
+quiet_end app k s bytes left before after a none end e c =
+    subst (ReplayGives app k s bytes left before after) (sym c.1) (record { output = []; sank = c.0 ∙ nothing_put before; is = closed_is app k s bytes [] none e }, end)
 
-over_end : (app : Shape) (k : ℕ) (s : Open) (lines : Option (List (List ℕ))) (left before after : Option (List ℕ)) (a : ReplayAnswer) → IfSome lines (λ ls. ls ≡ []) → IsAtEnd left
-    → all_closed app (s ∷ []) ≡ over_text s.label (codes "ended") → PutsOver s.label before after a → ReplayGives app k (s ∷ []) lines left before after a
-over_end app k s lines left before after answer.Done none end e p =
-    (record { output = over_text s.label (codes "ended"); sank = p; is = closed_is app k (s ∷ []) lines (over_text s.label (codes "ended")) none e }, end)
-over_end app k s lines left before after answer.WriteFault none end e p = record {
+over_end : (app : Shape) (k : ℕ) (s : Open) (bytes left before after : Option (List ℕ)) (a : ReplayAnswer) → IsAtEnd bytes → IsAtEnd left
+    → HasWritten (over_text s.label (codes "ended")) done (all_closed app (s ∷ [])) → PutsOver s.label before after a → ReplayGives app k (s ∷ []) bytes left before after a
+over_end app k s bytes left before after answer.Done none end e p =
+    (record { output = over_text s.label (codes "ended"); sank = p; is = closed_is app k (s ∷ []) bytes (over_text s.label (codes "ended")) none e }, end)
+over_end app k s bytes left before after answer.WriteFault none end e p = record {
   output = take p.count (over_text s.label (codes "ended"));
   sank = p.front;
-  front = closed_front app k (s ∷ []) lines (over_text s.label (codes "ended")) p.count none e;
+  front = closed_front app k (s ∷ []) bytes (over_text s.label (codes "ended")) p.count none e;
 }
-over_end app k s lines left before after answer.Memory none end e p = stops_here app k (s ∷ []) lines before after p
-over_end app k s lines left before after (answer.BadLine j) none end e p = absurd p
-over_end app k s lines left before after (answer.NoSession j) none end e p = absurd p
-over_end app k s lines left before after answer.ReadFault none end e p = absurd p
+over_end app k s bytes left before after answer.Memory none end e p = stops_here app k (s ∷ []) bytes before after p
+over_end app k s bytes left before after (answer.BadLine j) none end e p = absurd p
+over_end app k s bytes left before after (answer.NoSession j) none end e p = absurd p
+over_end app k s bytes left before after answer.ReadFault none end e p = absurd p
 
-stage_end : (app : Shape) (k : ℕ) (s : Open) (at : Stage) (lines : Option (List (List ℕ))) (left before after : Option (List ℕ)) (a : ReplayAnswer) → IfSome lines (λ ls. ls ≡ []) → IsAtEnd left
-    → IsShort k s → s.full ≡ false → EndsSo at (ending app s.journal) → ClosesAt at s.label before after a → ReplayGives app k (s ∷ []) lines left before after a
-stage_end app k s stage.New lines left before after a none end short full e c = absurd e
-stage_end app k s stage.Open lines left before after a none end short full e c = over_end app k s lines left before after a none end (closed_open app k s short full e) c
-stage_end app k s stage.Over lines left before after a none end short full e c = quiet_end app k (s ∷ []) lines left before after a none end (closed_over app s full e) c
+stage_end : (app : Shape) (k : ℕ) (s : Open) (at : Stage) (bytes left before after : Option (List ℕ)) (a : ReplayAnswer) → IsAtEnd bytes → IsAtEnd left
+    → IsShort k s → s.full ≡ false → EndsSo at (ending app s.journal) → ClosesAt at s.label before after a → ReplayGives app k (s ∷ []) bytes left before after a
+stage_end app k s stage.New bytes left before after a none end short full e c = absurd e
+stage_end app k s stage.Open bytes left before after a none end short full e c = over_end app k s bytes left before after a none end (closed_open app k s short full e) c
+stage_end app k s stage.Over bytes left before after a none end short full e c = quiet_end app k (s ∷ []) bytes left before after a none end (closed_over app s full e) c
 
-pub close_gives : (app : Shape) (k : ℕ) (s : List Open) (code : Option OpenSession) (lines : Option (List (List ℕ))) (left before after : Option (List ℕ)) (a : ReplayAnswer)
-    → HoldsSession app k s code → IfSome lines (λ ls. ls ≡ []) → IsAtEnd left → Closes code before after a → ReplayGives app k s lines left before after a
-close_gives app k [] None lines left before after a holds none end c = quiet_end app k [] lines left before after a none end refl c
-close_gives app k [] (Some code) lines left before after a holds none end c = absurd holds
-close_gives app k (s ∷ []) None lines left before after a holds none end c = absurd holds
-close_gives app k (s ∷ []) (Some code) lines left before after a holds none end c =
-    stage_end app k s code.flusher.stage lines left before after a none end holds.1 holds.0.goes_on holds.0.ending (subst (λ l. ClosesAt code.flusher.stage l before after a) holds.0.label c)
-close_gives app k (s ∷ other ∷ more) code lines left before after a holds none end c = absurd holds
+pub close_gives : (app : Shape) (k : ℕ) (s : List Open) (code : Option OpenSession) (bytes left before after : Option (List ℕ)) (a : ReplayAnswer)
+    → HoldsSession app k s code → IsAtEnd bytes → IsAtEnd left → Closes code before after a → ReplayGives app k s bytes left before after a
+close_gives app k [] None bytes left before after a holds none end c = quiet_end app k [] bytes left before after a none end (record { wrote = refl; ended = refl }) c
+close_gives app k [] (Some code) bytes left before after a holds none end c = absurd holds
+close_gives app k (s ∷ []) None bytes left before after a holds none end c = absurd holds
+close_gives app k (s ∷ []) (Some code) bytes left before after a holds none end c =
+    stage_end app k s code.flusher.stage bytes left before after a none end holds.1 holds.0.goes_on holds.0.ending (subst (λ l. ClosesAt code.flusher.stage l before after a) holds.0.label c)
+close_gives app k (s ∷ other ∷ more) code bytes left before after a holds none end c = absurd holds
 
 -- ---- a whole turn
 
-turn_at : (app : Shape) (k : ℕ) (s : List Open) (lines rest : Option (List (List ℕ))) (left before after : Option (List ℕ)) (t : Turn) (a : ReplayAnswer) → t ≡ turn.Ends a → ReplayGives app k s lines left before after a
-    → TurnGives app k s lines rest left before after t
-turn_at app k s lines rest left before after t a e h = subst (TurnGives app k s lines rest left before after) (sym e) h
+ends_with : (app : Shape) (k : ℕ) (s : List Open) (bytes before after : Option (List ℕ)) (end : ReplayEnd) → after ≡ before → Ends app k s bytes before before end → Ends app k s bytes before after end
+ends_with app k s bytes before after end e h = record { output = h.output; sank = e ∙ h.sank; is = h.is }
 
-ends_with : (app : Shape) (k : ℕ) (s : List Open) (lines : Option (List (List ℕ))) (before after : Option (List ℕ)) (end : ReplayEnd) → after ≡ before → Ends app k s lines before before end → Ends app k s lines before after end
-ends_with app k s lines before after end e h = record { output = h.output; sank = e ∙ h.sank; is = h.is }
+turn_at : (app : Shape) (s : List Open) (lines rest : LinesState) (left left_after before after : Option (List ℕ)) (t : Turn) (a : ReplayAnswer) → t ≡ turn.Ends a → ReplayGives app lines.number s (coming lines left) left_after before after a
+    → NotEnded lines.ended a → TurnGives app s lines rest left left_after before after t
+turn_at app s lines rest left left_after before after t a e h n = subst (TurnGives app s lines rest left left_after before after) (sym e) (h, n)
 
-pub taken_turn : (app : Shape) (k : ℕ) (s : List Open) (line : List ℕ) (lines rest : Option (List (List ℕ))) (left before after : Option (List ℕ)) (t : Result Taken Memory) (answered : Turn)
-    → lines ≡ option_map (λ ls. line ∷ ls) rest → IfOk t (TakesLine app k s (taken_by app k s line)) → AnswersTaken t k before after answered → TurnGives app k s lines rest left before after answered
-taken_turn app k s line lines rest left before after (Ok (taken.Answered a)) answered e takes gives = answer_put app k s line a lines rest left before after answered e takes gives
-taken_turn app k s line lines rest left before after (Ok taken.Bad) answered e takes gives =
-    turn_at app k s lines rest left before after answered (answer.BadLine k) gives.1 (ends_with app k s lines before after (bad_line k) gives.0 (line_refused app k s line (bad_line k) lines rest before e takes))
-taken_turn app k s line lines rest left before after (Ok taken.NoSession) answered e takes gives =
-    turn_at app k s lines rest left before after answered (answer.NoSession k) gives.1 (ends_with app k s lines before after (no_session k) gives.0 (line_refused app k s line (no_session k) lines rest before e takes))
-taken_turn app k s line lines rest left before after (Err x) answered e takes gives = turn_at app k s lines rest left before after answered answer.Memory gives.1 (stops_here app k s lines before after gives.0)
+pub taken_turn : (app : Shape) (s : List Open) (said : Line) (lines rest : LinesState) (left left_after before after : Option (List ℕ)) (t : Result Taken Memory) (answered : Turn) → (b : BeginsSaying said lines rest left left_after)
+    → IfOk t (TakesLine app lines.number s (taken_by app lines.number s b.line)) → AnswersTaken t lines.number before after answered → TurnGives app s lines rest left left_after before after answered
+taken_turn app s said lines rest left left_after before after (Ok (taken.Answered a)) answered b takes gives = answer_put app s said lines rest left left_after b a before after answered takes gives
+taken_turn app s said lines rest left left_after before after (Ok taken.Bad) answered b takes gives =
+    let k = lines.number in
+    turn_at app s lines rest left left_after before after answered (answer.BadLine k) gives.1
+    (ends_with app k s (coming lines left) before after (bad_line k) gives.0 (line_refused app k s b.line b.feed (bad_line k) (coming lines left) (coming rest left_after) before b.begins takes)) tt
+taken_turn app s said lines rest left left_after before after (Ok taken.NoSession) answered b takes gives =
+    let k = lines.number in
+    turn_at app s lines rest left left_after before after answered (answer.NoSession k) gives.1
+    (ends_with app k s (coming lines left) before after (no_session k) gives.0 (line_refused app k s b.line b.feed (no_session k) (coming lines left) (coming rest left_after) before b.begins takes)) tt
+taken_turn app s said lines rest left left_after before after (Err x) answered b takes gives =
+    turn_at app s lines rest left left_after before after answered answer.Memory gives.1 (stops_here app lines.number s (coming lines left) before after gives.0) tt
+
+-- the replay ends with this line
+pub turn_ends : (app : Shape) (s : List Open) (lines rest : LinesState) (left left_after before after : Option (List ℕ)) (a : ReplayAnswer) → ReplayGives app lines.number s (coming lines left) left_after before after a → NotEnded lines.ended a
+    → TurnGives app s lines rest left left_after before after (turn.Ends a)
+turn_ends app s lines rest left left_after before after a h n = (h, n)
+
+-- what closes the sessions is no fault of the source
+pub closes_open : (code : Option OpenSession) (ended_ : Bool) (before after : Option (List ℕ)) (a : ReplayAnswer) → Closes code before after a → NotEnded ended_ a
+closes_open code ended_ before after answer.Done c = tt
+closes_open code ended_ before after (answer.BadLine j) c = tt
+closes_open code ended_ before after (answer.NoSession j) c = tt
+closes_open None ended_ before after answer.ReadFault c = let e = c.1 in absurd cc
+closes_open (Some code) ended_ before after answer.ReadFault c = absurd (no_fault code.flusher.stage code.label c)
+  where
+    no_fault : (at : Stage) (label : List ℕ) → ClosesAt at label before after answer.ReadFault → ⊥
+    no_fault stage.Open label c = c
+    no_fault stage.New label c = let e = c.1 in absurd cc
+    no_fault stage.Over label c = let e = c.1 in absurd cc
+closes_open code ended_ before after answer.WriteFault c = tt
+closes_open code ended_ before after answer.Memory c = tt

@@ -13,6 +13,7 @@ use Rattle.app_printer.specs.Laws.{ReadsBack}
 use Rattle.session_model.specs.Transcript.{ReplayEnd, done, bad_line, no_session, replayed}
 use Rattle.session_model.specs.TakenLines.{replayed_today}
 use Rattle.flush_cycle.specs.Built.{first_unbuilt}
+use Rattle.shiny_main.specs.SoFar.{HasWritten, replayed_so_far}
 use Rattle.shiny_main.specs.declared.words.Command.{Command}
 use Rattle.shiny_main.specs.declared.words.Command.TheVariants as command
 use Rattle.shiny_main.specs.declared.ended.Ended.{Ended}
@@ -66,14 +67,14 @@ Prints app p e = Says (canonical_text app) p e × IsReadBack app e
 pub record Writes (app : Shape) (p : Ports) (end : ReplayEnd) : Type 0 where
   pub output : List ℕ
   pub sank : p.held_after ≡ append_known p.held output
-  pub is : IfSome p.left (λ bytes. replayed_today app bytes ≡ record { output = output; end = end })
+  pub is : IfSome p.left (λ bytes. HasWritten output end (replayed_today app bytes))
 
 -- the output was written that the transcript has by the definitions of the whole language and of several sessions, by
 -- which each of its lines is taken; and each of them is taken today
 pub record WritesWhole (app : Shape) (p : Ports) : Type 0 where
   pub output : List ℕ
   pub sank : p.held_after ≡ append_known p.held output
-  pub is : IfSome p.left (λ bytes. replayed app bytes ≡ record { output = output; end = done })
+  pub is : IfSome p.left (λ bytes. HasWritten output done (replayed app bytes))
   pub taken : IfSome p.left (λ bytes. (replayed_today app bytes).end ≡ done)
 
 -- a front of it was written
@@ -82,12 +83,27 @@ pub record WritesFront (app : Shape) (p : Ports) : Type 0 where
   pub sank : p.held_after ≡ append_known p.held output
   pub front : IfSome p.left (λ bytes. (more : List ℕ) × ((replayed_today app bytes).output ≡ output ++ more))
 
+-- of the input some bytes at the front were read, the others are left, and this is the output of the whole lines that were
+-- read, each of which was taken
+pub record IsOutputOfRead (app : Shape) (bytes : List ℕ) (left : Option (List ℕ)) (output : List ℕ) : Type 0 where
+  pub front : List ℕ
+  pub rest : List ℕ
+  pub parted : bytes ≡ front ++ rest
+  pub is_left : left ≡ Some rest
+  pub is : HasWritten output done (replayed_so_far app front)
+
+-- the output of the lines that were read whole was written, and no more
+pub record WritesRead (app : Shape) (p : Ports) : Type 0 where
+  pub output : List ℕ
+  pub sank : p.held_after ≡ append_known p.held output
+  pub is : IfSome p.left (λ bytes. IsOutputOfRead app bytes p.left_after output)
+
 -- at Done all lines were taken and the input is at its end; at BadLine and NoSession that line was refused
 abbrev pub ReplayedGives : Shape → Ports → Ended → Type 0
 ReplayedGives app p ended.Done = WritesWhole app p × IsAtEnd p.left_after
 ReplayedGives app p (ended.BadLine k) = Writes app p (bad_line k)
 ReplayedGives app p (ended.NoSession k) = Writes app p (no_session k)
-ReplayedGives app p ended.ReadFault = WritesFront app p
+ReplayedGives app p ended.ReadFault = WritesFront app p × WritesRead app p
 ReplayedGives app p ended.WriteFault = WritesFront app p
 ReplayedGives app p ended.Memory = WritesFront app p
 ReplayedGives app p _ = ⊥

@@ -1,5 +1,7 @@
+pub mod Pieces
+pub mod Spoken
 pub mod Lines
-pub mod Messages
+pub mod SoFar
 pub mod Replaying
 pub mod Statuses
 pub mod Words

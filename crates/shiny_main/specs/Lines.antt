@@ -1,77 +1,89 @@
--- The lines that a source has left, and what comes next of them.
-use Rattle.std.specs.Prelude.{◌≡◌, ◌==◌, ℕ, ◌+◌, ◌<◌, ◌≤◌, Bool, true, false, List, [], ◌∷◌, ◌++◌, length, take, drop, Option, IfSome, ⊤}
-use Rattle.std.specs.Option.{option_map}
+-- The lines that a source has left for a reader, and what comes next of them.
+use Rattle.std.specs.Prelude.{◌≡◌, ℕ, suc, ◌+◌, ◌<◌, ◌≤◌, ◌⊎◌, ◌↔◌, min, Bool, true, false, not, List, [], ◌∷◌, ◌++◌, length, Option, None, Some, IfSome, ⊤}
 use Rattle.std.specs.Io.KnownBytes.{prepend_known, IsAtEnd}
-use Rattle.std.specs.List.{position_or_len}
-use Rattle.session_model.specs.Lines.{HasNoFeed, lines_of, line_limit}
-use Rattle.shiny_main.specs.declared.lines.Step.{Step}
-use Rattle.shiny_main.specs.declared.lines.Step.TheVariants as step
-use Rattle.shiny_main.specs.declared.lines.NextLine.{NextLine}
-use Rattle.shiny_main.specs.declared.lines.NextLine.TheVariants.{Line, TooLong, End, Failed, Memory}
+use Rattle.session_model.specs.Lines.{lines_of, line_limit}
+use Rattle.session_model.specs.Transcript.{transcript_limit, line_past_limit}
+use Rattle.shiny_main.specs.declared.line.Line.{Line}
+use Rattle.shiny_main.specs.declared.lines.LineRead.{LineRead}
+use Rattle.shiny_main.specs.declared.lines.LineRead.TheVariants as read
+use Rattle.shiny_main.specs.Spoken.{spoken}
+use Rattle.shiny_main.specs.Pieces.{with_feed, BeginsWith, Breaks}
+use Rattle.shiny_main.specs.SoFar.{whole_lines}
 
--- the lines of the bytes that were taken and of those that the source has left, where it tells them
-abbrev pub remaining : List ℕ → Option (List ℕ) → Option (List (List ℕ))
-remaining taken left = option_map lines_of (prepend_known taken left)
+-- the bytes that a reader has taken and that belong to no line yet, the number of its next line, the count of the bytes of
+-- the lines before that one, and whether the source has told that it has no more
+pub record LinesState : Type 0 where
+  pub taken : List ℕ
+  pub number : ℕ
+  pub behind : ℕ
+  pub ended : Bool
 
-abbrev pub is_feed : ℕ → Bool
-is_feed b = b == 10
+-- the reader of a source from which nothing was taken
+abbrev pub at_start : LinesState
+at_start = record { taken = []; number = 1; behind = 0; ended = false }
 
--- the place of the first line feed, or the length
-abbrev pub feed_place : List ℕ → ℕ
-feed_place bytes = position_or_len is_feed bytes
+-- the bytes that are still to come, where the source tells what it has left
+abbrev pub coming : LinesState → Option (List ℕ) → Option (List ℕ)
+coming s left = prepend_known s.taken left
 
--- bytes were moved to the end of a line: those before the first line feed, which is gone; or all of them, where there is none
-abbrev pub Moves : Bool → List ℕ → List ℕ → List ℕ → List ℕ → Type 0
-Moves true old new line longer = (feed_place old < length old) × (new ≡ drop (feed_place old + 1) old) × (longer ≡ line ++ take (feed_place old) old)
-Moves false old new line longer = (length old ≤ feed_place old) × (new ≡ []) × (longer ≡ line ++ take (feed_place old) old)
+-- this is the source of which the lines were always read: where it has told its end, nothing is to come
+abbrev pub IsOfSource : LinesState → Option (List ℕ) → Type 0
+IsOfSource s left = s.ended ≡ true → IsAtEnd (coming s left)
 
--- the bytes that were taken, before those that the source has left
-abbrev pub content : List ℕ → List ℕ → Option (List ℕ) → Option (List ℕ)
-content line taken left = prepend_known (line ++ taken) left
+-- ---- the next line
 
--- the answers of a replacement of what was taken
-abbrev pub Replaces : Step → Type 0
-Replaces step.More = ⊤
-Replaces step.Memory = ⊤
-Replaces _ = ⊥
+-- the count of the bytes of the first line, with the line feed that ends it, if one does
+abbrev pub first_size : List ℕ → List ℕ → ℕ
+first_size line bytes = min (suc (length line)) (length bytes)
 
--- bytes were taken, at least one; or there are none
-abbrev pub RefillGives : Option (List ℕ) → List ℕ → Option (List ℕ) → Step → Type 0
-RefillGives old taken left step.More = (0 < length taken) × (old ≡ prepend_known taken left)
-RefillGives old taken left step.Found = ⊥
-RefillGives old taken left step.End = (taken ≡ []) × (left ≡ old) × IsAtEnd left
-RefillGives old taken left step.Failed = ⊤
-RefillGives old taken left step.Memory = ⊤
+-- the first line of these bytes, which stand behind so many others of a transcript, has no form; or the transcript goes past
+-- its limit in it
+pub record BeginsBad (behind : ℕ) (bytes : List ℕ) : Type 0 where
+  pub line : List ℕ
+  pub others : List (List ℕ)
+  pub first : lines_of bytes ≡ line ∷ others
+  pub bad : (spoken line ≡ None) ⊎ (transcript_limit < behind + first_size line bytes)
 
--- a line grew by what was taken: without an end, or to its end
-abbrev pub Grows : List ℕ → List ℕ → List ℕ → List ℕ → Step → Type 0
-Grows line old longer new step.More = HasNoFeed longer × (length line < length longer) × (line ++ old ≡ longer ++ new)
-Grows line old longer new step.Found = HasNoFeed longer × (line ++ old ≡ longer ++ 10 ∷ new)
-Grows line old longer new step.Memory = ⊤
-Grows line old longer new _ = ⊥
+-- the first line says this, and the transcript has not gone past its limit with it
+pub record BeginsSaying (said : Line) (old new : LinesState) (left left_after : Option (List ℕ)) : Type 0 where
+  pub line : List ℕ
+  pub feed : Bool
+  pub begins : BeginsWith line feed (coming old left) (coming new left_after)
+  pub says : spoken line ≡ Some said
+  pub number : new.number ≡ suc old.number
+  pub behind : new.behind ≡ old.behind + length (with_feed line feed)
+  pub within : new.behind ≤ transcript_limit
+  pub ended : new.ended ≡ not feed
 
--- one step towards the end of a line: it grew, it ended, or there is no more
-abbrev pub StepGives : Option (List ℕ) → List ℕ → List ℕ → List ℕ → Option (List ℕ) → Step → Type 0
-StepGives old line longer taken left step.More = HasNoFeed longer × (length line < length longer) × (old ≡ content longer taken left)
-StepGives old line longer taken left step.Found = HasNoFeed longer × (old ≡ option_map (λ rest. longer ++ 10 ∷ rest) (prepend_known taken left))
-StepGives old line longer taken left step.End = HasNoFeed longer × (taken ≡ []) × IsAtEnd left × (old ≡ content longer taken left)
-StepGives old line longer taken left step.Failed = ⊤
-StepGives old line longer taken left step.Memory = ⊤
+-- the first line, with its number, or that it is a bad one or that there is none, where the bytes are told. At a fault of the
+-- source some bytes of a line were taken which no line feed ends, and all others are left
+abbrev pub NextGives : LinesState → LinesState → Option (List ℕ) → Option (List ℕ) → LineRead → Type 0
+NextGives old new left left_after (read.Line k said) = (k ≡ old.number) × BeginsSaying said old new left left_after
+NextGives old new left left_after (read.Bad k) = (k ≡ old.number) × IfSome (coming old left) (BeginsBad old.behind)
+NextGives old new left left_after read.End = IsAtEnd (coming old left) × IsAtEnd left_after
+NextGives old new left left_after read.ReadFault = (old.ended ≡ false) × Breaks line_limit (coming old left) left_after
+NextGives old new left left_after read.Memory = ⊤
 
--- the first line is longer than any line may be
-abbrev pub BeginsTooLong : List (List ℕ) → Type 0
-BeginsTooLong [] = ⊥
-BeginsTooLong (line ∷ more) = line_limit < length line
+-- a transcript of which so many bytes stand before a line goes past its limit in that line exactly where its count of bytes
+-- reaches past it. The number of the line is one more than that of the line feeds before it
+abbrev pub PastIsHere : Type 0
+PastIsHere = (front bytes line : List ℕ) (others : List (List ℕ)) → length front ≤ transcript_limit → lines_of bytes ≡ line ∷ others
+    → (line_past_limit (front ++ bytes) ≡ Some (suc (length (whole_lines front)))) ↔ (transcript_limit < length front + first_size line bytes)
 
--- the first line, or that there is none, where the lines are told
-abbrev pub NextGives : Option (List (List ℕ)) → Option (List (List ℕ)) → NextLine → Type 0
-NextGives old new (Line line) = old ≡ option_map (λ lines. line ∷ lines) new
-NextGives old new TooLong = IfSome old BeginsTooLong
-NextGives old new End = (new ≡ old) × IfSome old (λ lines. lines ≡ [])
-NextGives old new Failed = ⊤
-NextGives old new Memory = ⊤
+-- ---- what was read of a line
 
--- the bytes behind the last line feed are a line where there are any
-abbrev pub last_line : List ℕ → NextLine
-last_line [] = End
-last_line (b ∷ line) = Line (b ∷ line)
+-- what a line says that has this many bytes with its line feeds, in a reader that stands behind it then
+pub record Says (said : Line) (line : List ℕ) (feeds : ℕ) (old new : LinesState) : Type 0 where
+  pub says : spoken line ≡ Some said
+  pub taken : new.taken ≡ old.taken
+  pub number : new.number ≡ suc old.number
+  pub behind : new.behind ≡ old.behind + (length line + feeds)
+  pub within : new.behind ≤ transcript_limit
+  pub ended : new.ended ≡ old.ended
+
+abbrev pub TellGives : List ℕ → ℕ → LinesState → LinesState → LineRead → Type 0
+TellGives line feeds old new (read.Line k said) = (k ≡ old.number) × Says said line feeds old new
+TellGives line feeds old new (read.Bad k) = (k ≡ old.number) × ((spoken line ≡ None) ⊎ (transcript_limit < old.behind + (length line + feeds)))
+TellGives line feeds old new read.End = ⊥
+TellGives line feeds old new read.ReadFault = ⊥
+TellGives line feeds old new read.Memory = ⊤

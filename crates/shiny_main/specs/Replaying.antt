@@ -1,6 +1,5 @@
 -- What the parts of a replay answer, in the words of its definition.
-use Rattle.std.specs.Prelude.{◌≡◌, ◌≢◌, ◌≤◌, ◌*◌, ℕ, suc, Bool, true, false, List, [], ◌∷◌, ◌++◌, length, Option, Some, None, Result, Ok, Err, IfSome, ⊤, codes}
-use Rattle.std.specs.Option.{option_map}
+use Rattle.std.specs.Prelude.{◌≡◌, ◌≢◌, ◌≤◌, ◌+◌, ◌*◌, ℕ, suc, Bool, true, false, not, List, [], ◌∷◌, ◌++◌, length, Option, Some, None, Result, Ok, Err, IfSome, ⊤, codes}
 use Rattle.std.specs.Io.KnownBytes.{append_known, IsAtEnd}
 use Rattle.rx_ports.specs.Faults.{Rose}
 use Rattle.rx_ports.specs.Sink.{PutsFront}
@@ -11,10 +10,12 @@ use Rattle.shiny_json.specs.declared.message.Pair.{Pair}
 use Rattle.shiny_json.specs.declared.message.Client.TheVariants.{Init, Update}
 use Rattle.shiny_json.specs.Client.{message_limit, client_message}
 use Rattle.session_model.specs.declared.event.Event.TheVariants.{Text}
-use Rattle.session_model.specs.Alone.{Ending, spent, course_of}
-use Rattle.session_model.specs.Transcript.{Open, opened, with_event, event_output, text_bytes, Line, ReplayEnd, done, bad_line, no_session, Rest, stopped, after_output, replay_line, replay_from}
+use Rattle.session_model.specs.Alone.{Ending, budget_spent, journal_result}
+use Rattle.session_model.specs.Transcript.{Open, opened, with_event, event_output, Line, ReplayEnd, done, bad_line, no_session, Rest, stopped, after_output, replay_line, replay_from}
+use Rattle.session_model.specs.Journal.{text_bytes}
+use Rattle.session_model.specs.Lines.{lines_of, line_limit}
 use Rattle.session_model.specs.TakenLines.{line_count_limit, taken_by}
-use Rattle.session_model.specs.Output.{send_lines, over_text}
+use Rattle.session_model.specs.WrittenLines.{send_lines, over_text}
 use Rattle.flush_cycle.specs.declared.stage.Stage.{Stage}
 use Rattle.flush_cycle.specs.declared.stage.Stage.TheVariants as stage
 use Rattle.shiny_main.specs.declared.session.OpenSession.{OpenSession}
@@ -25,20 +26,23 @@ use Rattle.shiny_main.specs.declared.transcript.Replayed.{Replayed as ReplayAnsw
 use Rattle.shiny_main.specs.declared.transcript.Replayed.TheVariants as answer
 use Rattle.shiny_main.specs.declared.transcript.Turn.{Turn}
 use Rattle.shiny_main.specs.declared.transcript.Turn.TheVariants as turn
+use Rattle.shiny_main.specs.Pieces.{with_feed, BeginsWith}
+use Rattle.shiny_main.specs.Lines.{LinesState, coming}
+use Rattle.shiny_main.specs.SoFar.{HasWritten, whole_lines, so_far_from}
 
 -- a session that goes on takes further events; one that is over ended by its budget
 abbrev pub EndsSo : Stage → Option Ending → Type 0
 EndsSo stage.New end = ⊥
 EndsSo stage.Open end = end ≡ None
-EndsSo stage.Over end = end ≡ Some spent
+EndsSo stage.Over end = end ≡ Some budget_spent
 
 -- the code's session has come where the journal of the definition's has
 pub record HoldsOpen (app : Shape) (s : Open) (code : OpenSession) : Type 0 where
   pub label : code.label ≡ s.label
   pub of_app : shape_of code.flusher.app ≡ app
-  pub state : code.flusher.state ≡ (course_of app s.journal).state
-  pub begun : (course_of app s.journal).begun ≡ true
-  pub ending : EndsSo code.flusher.stage (course_of app s.journal).ending
+  pub state : code.flusher.state ≡ (journal_result app s.journal).state
+  pub begun : (journal_result app s.journal).begun ≡ true
+  pub ending : EndsSo code.flusher.stage (journal_result app s.journal).ending
   pub goes_on : s.full ≡ false
 
 -- before line k its journal is far from full
@@ -87,8 +91,8 @@ pub record GoesOn (app : Shape) (k : ℕ) (sessions : List Open) (said : Option 
 -- what a line comes to, by what it says
 abbrev pub TakesLine : Shape → ℕ → List Open → Option Line → Taken → Type 0
 TakesLine app k sessions said (taken.Answered answered) = GoesOn app k sessions said answered
-TakesLine app k sessions said taken.Bad = (next : Rest) → replay_line app k sessions said next ≡ stopped (bad_line k)
-TakesLine app k sessions said taken.NoSession = (next : Rest) → replay_line app k sessions said next ≡ stopped (no_session k)
+TakesLine app k sessions said taken.Bad = (next : Rest) → replay_line app k sessions said next ≡ stopped sessions (bad_line k)
+TakesLine app k sessions said taken.NoSession = (next : Rest) → replay_line app k sessions said next ≡ stopped sessions (no_session k)
 
 -- an update was handed to a session: it was answered where the session went on, and refused where it was over
 abbrev pub Updates : OpenSession → List Pair → Taken → Type 0
@@ -98,40 +102,71 @@ Updates code pairs taken.NoSession = code.flusher.stage ≢ stage.Open
 
 -- ---- turns
 
--- the lines that are left end the replay so, and this was written
-pub record Ends (app : Shape) (k : ℕ) (sessions : List Open) (lines : Option (List (List ℕ))) (before after : Option (List ℕ)) (end : ReplayEnd) : Type 0 where
+-- the bytes that are to come end the replay so, and this was written
+pub record Ends (app : Shape) (k : ℕ) (sessions : List Open) (bytes before after : Option (List ℕ)) (end : ReplayEnd) : Type 0 where
   pub output : List ℕ
   pub sank : after ≡ append_known before output
-  pub is : IfSome lines (λ ls. replay_from app (taken_by app) k sessions ls ≡ record { output = output; end = end })
+  pub is : IfSome bytes (λ bs. HasWritten output end (replay_from app (taken_by app) k sessions (lines_of bs)))
 
 -- a front of their output was written
-pub record Stops (app : Shape) (k : ℕ) (sessions : List Open) (lines : Option (List (List ℕ))) (before after : Option (List ℕ)) : Type 0 where
+pub record Stops (app : Shape) (k : ℕ) (sessions : List Open) (bytes before after : Option (List ℕ)) : Type 0 where
   pub output : List ℕ
   pub sank : after ≡ append_known before output
-  pub front : IfSome lines (λ ls. (more : List ℕ) × ((replay_from app (taken_by app) k sessions ls).output ≡ output ++ more))
+  pub front : IfSome bytes (λ bs. (more : List ℕ) × ((replay_from app (taken_by app) k sessions (lines_of bs)).output ≡ output ++ more))
 
--- one line was answered, and the replay goes on with those behind it
-pub record Went (app : Shape) (k : ℕ) (sessions : List Open) (code : OpenSession) (lines rest : Option (List (List ℕ))) (before after : Option (List ℕ)) : Type 0 where
-  pub within : k ≤ line_count_limit
+-- of these bytes some at the front were read, the others are left, and this is the output of the whole lines that were read,
+-- each of which was taken
+pub record IsOutputOfFront (app : Shape) (k : ℕ) (sessions : List Open) (bytes : List ℕ) (left : Option (List ℕ)) (output : List ℕ) : Type 0 where
+  pub front : List ℕ
+  pub rest : List ℕ
+  pub parted : bytes ≡ front ++ rest
+  pub is_left : left ≡ Some rest
+  pub is : HasWritten output done (so_far_from app (taken_by app) k sessions (whole_lines front))
+
+-- the output of the whole lines that were read was written
+pub record Leaves (app : Shape) (k : ℕ) (sessions : List Open) (bytes left before after : Option (List ℕ)) : Type 0 where
+  pub output : List ℕ
+  pub sank : after ≡ append_known before output
+  pub is : IfSome bytes (λ bs. IsOutputOfFront app k sessions bs left output)
+
+-- one line was answered, and the replay goes on behind it
+pub record Went (app : Shape) (sessions : List Open) (code : OpenSession) (lines rest : LinesState) (bytes bytes_after before after : Option (List ℕ)) : Type 0 where
+  pub within : lines.number ≤ line_count_limit
   pub next : Open
   pub holds : HoldsOpen app next code
-  pub short : IsShort (suc k) next
+  pub short : IsShort rest.number next
   pub output : List ℕ
   pub sank : after ≡ append_known before output
-  pub is : option_map (replay_from app (taken_by app) k sessions) lines ≡ option_map (λ ls. after_output output (replay_from app (taken_by app) (suc k) (next ∷ []) ls)) rest
+  pub line : List ℕ
+  pub feed : Bool
+  pub begins : BeginsWith line feed bytes bytes_after
+  pub few : length line ≤ line_limit
+  pub number : rest.number ≡ suc lines.number
+  pub behind : rest.behind ≡ lines.behind + length (with_feed line feed)
+  pub ended : rest.ended ≡ not feed
+  pub is : (more : Rest) → replay_line app lines.number sessions (taken_by app lines.number sessions line) more ≡ after_output output (more (next ∷ []))
 
 -- how a replay ended, with what was written
-abbrev pub ReplayGives : Shape → ℕ → List Open → Option (List (List ℕ)) → Option (List ℕ) → Option (List ℕ) → Option (List ℕ) → ReplayAnswer → Type 0
-ReplayGives app k s lines left before after answer.Done = Ends app k s lines before after done × IsAtEnd left
-ReplayGives app k s lines left before after (answer.BadLine j) = Ends app k s lines before after (bad_line j)
-ReplayGives app k s lines left before after (answer.NoSession j) = Ends app k s lines before after (no_session j)
-ReplayGives app k s lines left before after answer.ReadFault = Stops app k s lines before after
-ReplayGives app k s lines left before after answer.WriteFault = Stops app k s lines before after
-ReplayGives app k s lines left before after answer.Memory = Stops app k s lines before after
+abbrev pub ReplayGives : Shape → ℕ → List Open → Option (List ℕ) → Option (List ℕ) → Option (List ℕ) → Option (List ℕ) → ReplayAnswer → Type 0
+ReplayGives app k s bytes left before after answer.Done = Ends app k s bytes before after done × IsAtEnd left
+ReplayGives app k s bytes left before after (answer.BadLine j) = Ends app k s bytes before after (bad_line j)
+ReplayGives app k s bytes left before after (answer.NoSession j) = Ends app k s bytes before after (no_session j)
+ReplayGives app k s bytes left before after answer.ReadFault = Stops app k s bytes before after × Leaves app k s bytes left before after
+ReplayGives app k s bytes left before after answer.WriteFault = Stops app k s bytes before after
+ReplayGives app k s bytes left before after answer.Memory = Stops app k s bytes before after
 
-abbrev pub TurnGives : Shape → ℕ → List Open → Option (List (List ℕ)) → Option (List (List ℕ)) → Option (List ℕ) → Option (List ℕ) → Option (List ℕ) → Turn → Type 0
-TurnGives app k s lines rest left before after (turn.Goes code) = Went app k s code lines rest before after
-TurnGives app k s lines rest left before after (turn.Ends a) = ReplayGives app k s lines left before after a
+-- only a reader that has not come to the end of its source meets a fault
+abbrev pub NotEnded : Bool → ReplayAnswer → Type 0
+NotEnded ended answer.ReadFault = ended ≡ false
+NotEnded ended _ = ⊤
+
+abbrev pub TurnGives : Shape → List Open → LinesState → LinesState → Option (List ℕ) → Option (List ℕ) → Option (List ℕ) → Option (List ℕ) → Turn → Type 0
+TurnGives app s lines rest left left_after before after (turn.Goes code) = Went app s code lines rest (coming lines left) (coming rest left_after) before after
+TurnGives app s lines rest left left_after before after (turn.Ends a) = ReplayGives app lines.number s (coming lines left) left_after before after a × NotEnded lines.ended a
+
+-- no more lines stand before the next one than are taken, each of 70,001 bytes at most with its line feed
+abbrev pub HasFewBehind : LinesState → Type 0
+HasFewBehind lines = (lines.number ≤ suc line_count_limit) × (lines.behind + suc line_limit ≤ suc line_limit * lines.number)
 
 -- a fault is answered only where its count rose
 abbrev pub ReadFaults : ℕ → ℕ → ReplayAnswer → Type 0

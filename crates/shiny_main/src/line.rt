@@ -1,10 +1,11 @@
-ghost use Rattle.std.specs.Prelude.{◌≡◌, List};
+ghost use Rattle.std.specs.Prelude.{◌≡◌, IfOk};
 ghost use Rattle.std.specs.Option.{option_map};
 ghost use Rattle.std.specs.List.{list_all};
-ghost use Rattle.app_tree.specs.Tree.{Node};
-ghost use Rattle.session_model.specs.Transcript.{recv, line_of};
 ghost use Rattle.session_model.specs.Lines.{is_label, is_label_byte};
-ghost use Rattle.shiny_main.specs.Messages.{message_of, message_behind, message_in};
+ghost use Rattle.shiny_main.specs.Spoken.{spoken, spoken_in, spoken_behind, line_said, LineIsSpoken};
+
+use rx_value::{Memory, RxText};
+use std::alloc::Global;
 
 /// The most bytes of a line, without its line feed.
 pub const LINE_LIMIT: usize = 70_000;
@@ -12,11 +13,23 @@ pub const LINE_LIMIT: usize = 70_000;
 /// The most bytes of a session's name.
 const LABEL_LIMIT: usize = 32;
 
-/// A line `S recv TEXT`: a client message for session S.
+/// What a line of a transcript says.
+#[derive(Debug, Drop)]
+pub enum Line {
+    /// `S recv TEXT`: a client message for session S.
+    Recv(RxText, RxText),
+    /// `S end TASK`: what runs of the task of this name ends in session S.
+    End(RxText, RxText),
+    /// `S close`: the link of session S ends.
+    Close(RxText),
+}
+
+/// The same within the bytes of the line.
 #[derive(Clone, Copy)]
-pub struct Recv<'a> {
-    pub label: &'a str,
-    pub text: &'a str,
+enum Said<'a> {
+    Recv(&'a str, &'a str),
+    End(&'a str, &'a str),
+    Close(&'a str),
 }
 
 fn are_label_bytes(name: &[u8]) -> bool
@@ -38,34 +51,77 @@ fn is_label(name: &str) -> bool
     are_label_bytes(name.as_bytes())
 }
 
-fn recv_of<'a>(label: &'a str, rest: &'a str) -> Option<Recv<'a>>
-    ensures { option_map (λ r. recv r.label.now r.text.now) result ≡ message_behind label.now rest.now }
+fn said_behind<'a>(label: &'a str, rest: &'a str) -> Option<Said<'a>>
+    ensures { option_map line_said result ≡ spoken_behind label.now rest.now }
 {
     match rest.split_once(' ') {
-        Some(("recv", text)) => Some(Recv { label, text }),
-        _ => None,
+        Some(("recv", text)) => Some(Said::Recv(label, text)),
+        Some(("end", task)) => Some(Said::End(label, task)),
+        Some(_) => None,
+        None if rest == "close" => Some(Said::Close(label)),
+        None => None,
     }
 }
 
-fn parts_of(line: &str) -> Option<Recv<'_>>
-    ensures { option_map (λ r. recv r.label.now r.text.now) result ≡ message_in line.now }
+fn said_in(line: &str) -> Option<Said<'_>>
+    ensures { option_map line_said result ≡ spoken_in line.now }
 {
     match line.split_once(' ') {
-        Some((label, rest)) if is_label(label) => recv_of(label, rest),
+        Some((label, rest)) if is_label(label) => said_behind(label, rest),
         _ => None,
     }
 }
 
-/// The client message that a line says, or nothing where it is too long, isn't UTF-8 or says no such one,
-/// whatever items the app has.
-pub fn line_of(line: &[u8]) -> Option<Recv<'_>>
-    ensures { (items : List Node) → option_map (λ r. recv r.label.now r.text.now) result ≡ message_of (line_of items line.now) }
+fn said_by(line: &[u8]) -> Option<Said<'_>>
+    ensures { option_map line_said result ≡ spoken line.now }
 {
     if line.len() > LINE_LIMIT {
         return None;
     }
     match str::from_utf8(line) {
-        Ok(text) => parts_of(text),
+        Ok(text) => said_in(text),
         Err(_) => None,
     }
 }
+
+fn line_said(alloc: Global, said: Said<'_>) -> Result<Line, Memory>
+    ensures { IfOk result (λ line. line ≡ line_said said.entry) }
+{
+    match said {
+        Said::Recv(label, text) => {
+            let label = RxText::from_str(alloc, label)?;
+            let text = RxText::from_str(alloc, text)?;
+            Ok(Line::Recv(label, text))
+        }
+        Said::End(label, task) => {
+            let label = RxText::from_str(alloc, label)?;
+            let task = RxText::from_str(alloc, task)?;
+            Ok(Line::End(label, task))
+        }
+        Said::Close(label) => {
+            let label = RxText::from_str(alloc, label)?;
+            Ok(Line::Close(label))
+        }
+    }
+}
+
+/// What a line says, or nothing where it is too long, isn't UTF-8 or has no such form, whatever
+/// tasks there are.
+pub fn spoken(alloc: Global, line: &[u8]) -> Result<Option<Line>, Memory>
+    ensures { IfOk result (λ says. says ≡ spoken line.now) }
+{
+    match said_by(line) {
+        Some(said) => {
+            let line = line_said(alloc, said)?;
+            Ok(Some(line))
+        }
+        None => Ok(None),
+    }
+}
+
+/// Does nothing: it is there for its contract. What a line of an app's transcript says is what its bytes
+/// say, with the task looked up among the app's.
+#[tactic(auto, using(crate::proofs::SpokenLines::line_is_spoken))]
+pub fn spoken_laws()
+    ensures { LineIsSpoken }
+{}

@@ -1,192 +1,116 @@
-ghost use Rattle.std.specs.Prelude.{◌≡◌, ◌==◌, ◌<◌, ◌≤◌, [], length, position, IfOk};
-ghost use Rattle.shiny_main.specs.Lines.{is_feed, feed_place, Moves, Replaces, RefillGives, Grows, StepGives, last_line, NextGives, remaining, content};
-ghost use Rattle.rx_ports.specs.Faults.{Rose};
-ghost use Rattle.std.specs.Io.KnownBytes.{prepend_known, IsAtEnd};
-ghost use Rattle.session_model.specs.Lines.{HasNoFeed};
+//! The lines of a transcript, read from a source one at a time.
 
-use crate::line::LINE_LIMIT;
-use rx_ports::{RxBytes, Source, Take};
+ghost use Rattle.std.specs.Prelude.{◌≡◌, ◌≤◌, ◌+◌, length, IfOk};
+ghost use Rattle.shiny_main.specs.Lines.{at_start, IsOfSource, NextGives, TellGives, PastIsHere};
+ghost use Rattle.rx_ports.specs.Faults.{Rose};
+
+use crate::line::{LINE_LIMIT, Line, spoken};
+use crate::pieces::{Cut, Pieces};
+use rx_ports::Source;
 use rx_value::Memory;
 use std::alloc::Global;
 use std::marker::Model;
 
-/// The most bytes that are taken from the source at once.
-const PIECE: usize = 4_096;
+/// The most bytes of a transcript.
+const TRANSCRIPT_LIMIT: usize = 67_108_864;
 
-/// The lines of a source, one at a time. Contracts see the bytes that were taken and belong to no
-/// line yet.
+/// The lines of a source, one at a time.
 #[derive(Debug, Drop)]
 pub struct Lines {
-    piece: Vec<u8>,
-    start: usize,
+    pieces: Pieces,
+    number: u64,
+    behind: usize,
+    ended: bool,
 }
 
 impl Model for Lines {
-    ghost use Rattle.std.specs.Prelude.{List, ℕ, ◌≤◌, drop, length};
+    ghost use Rattle.std.specs.Prelude.{suc, ◌≤◌};
+    ghost use Rattle.session_model.specs.Transcript.{transcript_limit};
+    ghost use Rattle.shiny_main.specs.Lines.{LinesState};
 
-    ghost Value = { List ℕ };
+    ghost Value = { LinesState };
 
-    ghost view = { λ l. drop l.start l.piece.items };
+    ghost view = { λ l. record { taken = l.pieces; number = l.number; behind = l.behind; ended = l.ended } };
 
-    ghost invariant = { λ l. l.start ≤ length l.piece.items };
+    ghost invariant = { λ l. (l.number ≤ suc l.behind) × (l.behind ≤ transcript_limit) };
 }
 
-/// What comes next.
+/// The next line of a source.
 #[derive(Debug, Drop)]
-pub enum NextLine {
-    /// The bytes of a line, without its line feed.
-    Line(RxBytes),
-    /// A line that is longer than any line may be. The source is in the midst of it.
-    TooLong,
-    /// No byte is left.
+pub enum LineRead {
+    /// What the line of this number says. Lines are numbered from 1.
+    Line(u64, Line),
+    /// The line of this number has no such form, or a byte past the most of a transcript.
+    Bad(u64),
+    /// There is no more line.
     End,
     /// The source failed.
-    Failed,
+    ReadFault,
     Memory,
-}
-
-/// What one step towards the end of a line came to.
-#[derive(Clone, Copy, Debug, PartialEq, Eq)]
-pub enum Step {
-    /// The line has more bytes now.
-    More,
-    /// The line is whole.
-    Found,
-    /// There are no more bytes.
-    End,
-    Failed,
-    Memory,
-}
-
-fn feed_at(bytes: &[u8]) -> Option<usize>
-    ensures { result ≡ position is_feed bytes.now }
-{
-    bytes.iter().position(|byte| *byte == b'\n')
-}
-
-fn feed_place(bytes: &[u8]) -> usize
-    ensures place { result ≡ feed_place bytes.now }
-    ensures within { result ≤ length bytes.now }
-{
-    match feed_at(bytes) {
-        Some(place) => place,
-        None => bytes.len(),
-    }
 }
 
 impl Lines {
-    /// The lines of a source from which nothing was taken.
-    pub fn new(alloc: Global) -> Lines
-        ensures { result ≡ [] }
+    /// Before line 1 of a source from which nothing was taken.
+    pub fn new(alloc: Global) -> Result<Lines, Memory>
+        ensures { IfOk result (λ lines. lines ≡ at_start) }
     {
-        Lines {
-            piece: Vec::new(alloc),
-            start: 0,
-        }
+        Ok(Lines {
+            pieces: Pieces::new(alloc)?,
+            number: 1,
+            behind: 0,
+            ended: false,
+        })
     }
 
-    fn move_line(&mut self, line: &mut RxBytes) -> Result<bool, Memory>
-        ensures { IfOk result (λ found. Moves found self.old self.new line.old line.new) }
+    /// The next line, of the source that it was always asked of. After any answer but `Line` no
+    /// further call is of use.
+    pub fn next<S: Source>(&mut self, alloc: Global, input: &mut S) -> LineRead
+        requires { IsOfSource self.old (S.left input.old) }
+        ensures gives { NextGives self.old self.new (S.left input.old) (S.left input.new) result }
+        ensures later { S.faults input.old ≤ S.faults input.new }
+        ensures failed { result ≡ LineRead.ReadFault → Rose (S.faults input.old) (S.faults input.new) }
     {
-        let bytes = &self.piece.as_slice()[self.start..];
-        let place = feed_place(bytes);
-        line.extend(&bytes[..place])?;
-        if place < bytes.len() {
-            self.start += place + 1;
-            Ok(true)
-        } else {
-            self.start = self.piece.len();
-            Ok(false)
+        if self.ended {
+            return LineRead::End;
         }
-    }
-
-    fn refill<S: Source>(&mut self, source: &mut S) -> Step
-        requires { self.old ≡ [] }
-        ensures gives { RefillGives (S.left source.old) self.new (S.left source.new) result }
-        ensures later { S.faults source.old ≤ S.faults source.new }
-        ensures failed { result ≡ Step.Failed → Rose (S.faults source.old) (S.faults source.new) }
-    {
-        let mut buffer = [0u8; PIECE];
-        match source.take(&mut buffer) {
-            Take::Bytes(count) => self.replace(&buffer[..count]),
-            Take::End => Step::End,
-            Take::Failed => Step::Failed,
-        }
-    }
-
-    fn replace(&mut self, bytes: &[u8]) -> Step
-        ensures more { result ≡ Step.More → self.new ≡ bytes.now }
-        ensures answers { Replaces result }
-    {
-        self.piece.clear();
-        self.start = 0;
-        match self.piece.extend_from_slice(bytes) {
-            Ok(()) => Step::More,
-            Err(_) => Step::Memory,
-        }
-    }
-
-    fn is_empty(&self) -> bool
-        ensures { result ≡ (length self.now == 0) }
-    {
-        let bytes = &self.piece.as_slice()[self.start..];
-        bytes.is_empty()
-    }
-
-    fn step<S: Source>(&mut self, source: &mut S, line: &mut RxBytes) -> Step
-        requires { HasNoFeed line.old }
-        ensures gives { StepGives (content line.old self.old (S.left source.old)) line.old line.new self.new (S.left source.new) result }
-        ensures later { S.faults source.old ≤ S.faults source.new }
-        ensures failed { result ≡ Step.Failed → Rose (S.faults source.old) (S.faults source.new) }
-    {
-        if !self.is_empty() {
-            return self.grow(line);
-        }
-        match self.refill(source) {
-            Step::More => self.grow(line),
-            other => other,
-        }
-    }
-
-    fn grow(&mut self, line: &mut RxBytes) -> Step
-        requires some { 0 < length self.old }
-        requires no_feed { HasNoFeed line.old }
-        ensures { Grows line.old self.old line.new self.new result }
-    {
-        match self.move_line(line) {
-            Ok(true) => Step::Found,
-            Ok(false) => Step::More,
-            Err(Memory) => Step::Memory,
-        }
-    }
-
-    /// The next line. After any answer but `Line` no further call is of use.
-    pub fn next<S: Source>(&mut self, alloc: Global, source: &mut S) -> NextLine
-        ensures gives { NextGives (remaining self.old (S.left source.old)) (remaining self.new (S.left source.new)) result }
-        ensures ended { result ≡ NextLine.End → IsAtEnd (S.left source.new) }
-        ensures later { S.faults source.old ≤ S.faults source.new }
-        ensures failed { result ≡ NextLine.Failed → Rose (S.faults source.old) (S.faults source.new) }
-    {
-        let mut line = RxBytes::new(alloc);
-        'growing: while line.len() <= LINE_LIMIT {
-            match self.step(source, &mut line) {
-                Step::More => {}
-                Step::Found => return NextLine::Line(line),
-                Step::End => return last_line(line),
-                Step::Failed => return NextLine::Failed,
-                Step::Memory => return NextLine::Memory,
+        let most = LINE_LIMIT.min(TRANSCRIPT_LIMIT - self.behind);
+        match self.pieces.next(alloc, input, most) {
+            Cut::Line(line) => self.tell(alloc, line.as_slice(), 1),
+            Cut::Last(line) => {
+                self.ended = true;
+                self.tell(alloc, line.as_slice(), 0)
             }
+            Cut::TooLong => LineRead::Bad(self.number),
+            Cut::End => LineRead::End,
+            Cut::Failed => LineRead::ReadFault,
+            Cut::Memory => LineRead::Memory,
         }
-        NextLine::TooLong
+    }
+
+    /// What the next line says, whose bytes so many line feeds end.
+    fn tell(&mut self, alloc: Global, line: &[u8], feeds: usize) -> LineRead
+        requires { 1 ≤ length line.now + feeds }
+        ensures { TellGives line.now feeds self.old self.new result }
+    {
+        let room = TRANSCRIPT_LIMIT - self.behind;
+        if line.len() > room || room - line.len() < feeds {
+            return LineRead::Bad(self.number);
+        }
+        match spoken(alloc, line) {
+            Ok(Some(said)) => {
+                let number = self.number;
+                self.number += 1;
+                self.behind += line.len() + feeds;
+                LineRead::Line(number, said)
+            }
+            Ok(None) => LineRead::Bad(self.number),
+            Err(Memory) => LineRead::Memory,
+        }
     }
 }
 
-fn last_line(line: RxBytes) -> NextLine
-    ensures { result ≡ last_line line }
-{
-    if line.len() == 0 {
-        NextLine::End
-    } else {
-        NextLine::Line(line)
-    }
-}
+/// Does nothing: it is there for its contract. A reader of lines, which counts the bytes behind it, comes to a byte
+/// past the limit of a transcript in the line in which the whole transcript goes past it.
+pub fn limit_laws()
+    ensures { PastIsHere }
+{}

@@ -7,6 +7,7 @@ mod ended;
 mod line;
 mod lines;
 mod note;
+mod pieces;
 mod real;
 mod replay;
 mod session;

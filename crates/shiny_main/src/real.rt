@@ -21,7 +21,9 @@ pub struct RealFiles<'a, R> {
 }
 
 impl<'a, R: rt::Files> RealFiles<'a, R> {
-    pub fn new(runtime: &'a R) -> RealFiles<'a, R> {
+    pub fn new(runtime: &'a R) -> RealFiles<'a, R>
+        ensures { ⟦<RealFiles<'a, R> as Files>⟧.faults result ≡ 0 }
+    {
         RealFiles { runtime, faults: 0 }
     }
 
@@ -95,7 +97,9 @@ pub struct Reading<R> {
 }
 
 impl<R: Read> Reading<R> {
-    pub fn new(reader: R) -> Reading<R> {
+    pub fn new(reader: R) -> Reading<R>
+        ensures { ⟦<Reading<R> as Source>⟧.faults result ≡ 0 }
+    {
         Reading { reader, faults: 0 }
     }
 }
@@ -129,7 +133,9 @@ pub struct Writing<W> {
 }
 
 impl<W: Write> Writing<W> {
-    pub fn new(writer: W) -> Writing<W> {
+    pub fn new(writer: W) -> Writing<W>
+        ensures { ⟦<Writing<W> as Sink>⟧.faults result ≡ 0 }
+    {
         Writing { writer, faults: 0 }
     }
 }

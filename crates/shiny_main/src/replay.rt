@@ -1,11 +1,12 @@
-ghost use Rattle.std.specs.Prelude.{◌≡◌, List, [], ◌∷◌, Some, IfOk};
+ghost use Rattle.std.specs.Prelude.{List, [], ◌∷◌, Some, IfOk};
 ghost use Rattle.app_tree.specs.View.{shape_of};
-ghost use Rattle.session_model.specs.Transcript.{Open, recv as recv_line};
-ghost use Rattle.session_model.specs.TakenLines.{taken_pairs, taken_line, taken_by};
+ghost use Rattle.session_model.specs.Transcript.{Open, recv};
+ghost use Rattle.session_model.specs.TakenLines.{taken_line};
 ghost use Rattle.flush_cycle.specs.Built.{IsBuilt};
+ghost use Rattle.shiny_main.specs.Spoken.{numbered};
 ghost use Rattle.shiny_main.specs.Replaying.{AnswersFirst, HoldsOpen, IsShort, HoldsSession, Updates, TakesLine};
 
-use crate::line::{Recv, line_of};
+use crate::line::Line;
 use crate::session::{Answered, OpenSession, answer_first, answer_later};
 use app_tree::App;
 use flush_cycle::{Stage, read_taken};
@@ -27,43 +28,35 @@ pub enum Taken {
     NoSession,
 }
 
-/// What a message sets, where its text has the form that is taken today.
-fn taken_pairs(
-    alloc: Global,
-    app: &App,
-    first: bool,
-    text: &str,
-) -> Result<Option<ClientData>, Memory>
-    ensures { IfOk result (λ pairs. pairs ≡ taken_pairs (shape_of app.now) first text.now) }
-{
-    let text = RxText::from_str(alloc, text)?;
-    read_taken(alloc, app, first, &text)
-}
-
 /// Opens a session of this label with its init.
 fn opened(
     alloc: Global,
     app: &Arc<App>,
-    label: &str,
+    label: &RxText,
     pairs: &ClientData,
 ) -> Result<Answered, Memory>
     requires { IsBuilt (shape_of app.now.value) }
     ensures { IfOk result (λ a. AnswersFirst (shape_of app.now.value) label.now pairs.now a) }
 {
-    let label = RxText::from_str(alloc, label)?;
-    answer_first(alloc, app.clone()?, &label, pairs)
+    answer_first(alloc, app.clone()?, label, pairs)
 }
 
-fn first_recv(alloc: Global, app: &Arc<App>, number: u64, recv: Recv<'_>) -> Result<Taken, Memory>
+fn first_recv(
+    alloc: Global,
+    app: &Arc<App>,
+    number: u64,
+    label: &RxText,
+    text: &RxText,
+) -> Result<Taken, Memory>
     requires { IsBuilt (shape_of app.now.value) }
-    ensures { IfOk result (λ t. TakesLine (shape_of app.now.value) number [] (taken_line (shape_of app.now.value) number [] (Some (recv_line recv.entry.label.now recv.entry.text.now))) t) }
+    ensures { IfOk result (λ t. TakesLine (shape_of app.now.value) number [] (taken_line (shape_of app.now.value) number [] (Some (recv label.now text.now))) t) }
 {
     if number > LINE_COUNT_LIMIT {
         return Ok(Taken::Bad);
     }
-    match taken_pairs(alloc, app, true, recv.text)? {
+    match read_taken(alloc, app, true, text)? {
         Some(pairs) => {
-            let answered = opened(alloc, app, recv.label, &pairs)?;
+            let answered = opened(alloc, app, label, &pairs)?;
             Ok(Taken::Answered(answered))
         }
         None => Ok(Taken::Bad),
@@ -75,17 +68,18 @@ fn later_recv(
     app: &App,
     session: OpenSession,
     number: u64,
-    recv: Recv<'_>,
+    label: &RxText,
+    text: &RxText,
 ) -> Result<Taken, Memory>
-    ensures { IfOk result (λ t. (s : Open) → HoldsOpen (shape_of app.now) s session → IsShort number s → TakesLine (shape_of app.now) number (s ∷ []) (taken_line (shape_of app.now) number (s ∷ []) (Some (recv_line recv.entry.label.now recv.entry.text.now))) t) }
+    ensures { IfOk result (λ t. (s : Open) → HoldsOpen (shape_of app.now) s session → IsShort number s → TakesLine (shape_of app.now) number (s ∷ []) (taken_line (shape_of app.now) number (s ∷ []) (Some (recv label.now text.now))) t) }
 {
     if number > LINE_COUNT_LIMIT {
         return Ok(Taken::Bad);
     }
-    if recv.label != session.label.as_str() {
+    if label.as_str() != session.label.as_str() {
         return Ok(Taken::Bad);
     }
-    match taken_pairs(alloc, app, false, recv.text)? {
+    match read_taken(alloc, app, false, text)? {
         Some(pairs) => update(alloc, session, &pairs),
         None => Ok(Taken::Bad),
     }
@@ -108,14 +102,15 @@ fn take_recv(
     app: &Arc<App>,
     session: Option<OpenSession>,
     number: u64,
-    recv: Recv<'_>,
+    label: &RxText,
+    text: &RxText,
 ) -> Result<Taken, Memory>
     requires { IsBuilt (shape_of app.now.value) }
-    ensures { IfOk result (λ t. (s : List Open) → HoldsSession (shape_of app.now.value) number s session → TakesLine (shape_of app.now.value) number s (taken_line (shape_of app.now.value) number s (Some (recv_line recv.entry.label.now recv.entry.text.now))) t) }
+    ensures { IfOk result (λ t. (s : List Open) → HoldsSession (shape_of app.now.value) number s session → TakesLine (shape_of app.now.value) number s (taken_line (shape_of app.now.value) number s (Some (recv label.now text.now))) t) }
 {
     match session {
-        None => first_recv(alloc, app, number, recv),
-        Some(session) => later_recv(alloc, app, session, number, recv),
+        None => first_recv(alloc, app, number, label, text),
+        Some(session) => later_recv(alloc, app, session, number, label, text),
     }
 }
 
@@ -125,13 +120,13 @@ pub fn take_line(
     app: &Arc<App>,
     session: Option<OpenSession>,
     number: u64,
-    line: &[u8],
+    said: Line,
 ) -> Result<Taken, Memory>
     requires { IsBuilt (shape_of app.now.value) }
-    ensures { IfOk result (λ t. (s : List Open) → HoldsSession (shape_of app.now.value) number s session → TakesLine (shape_of app.now.value) number s (taken_by (shape_of app.now.value) number s line.now) t) }
+    ensures { IfOk result (λ t. (s : List Open) → HoldsSession (shape_of app.now.value) number s session → TakesLine (shape_of app.now.value) number s (taken_line (shape_of app.now.value) number s (numbered (shape_of app.now.value).items said)) t) }
 {
-    match line_of(line) {
-        Some(recv) => take_recv(alloc, app, session, number, recv),
-        None => Ok(Taken::Bad),
+    match said {
+        Line::Recv(label, text) => take_recv(alloc, app, session, number, &label, &text),
+        Line::End(_, _) | Line::Close(_) => Ok(Taken::Bad),
     }
 }

@@ -1,6 +1,6 @@
 ghost use Rattle.std.specs.Prelude.{◌≡◌, ◌++◌, OnOk, IfOk, codes};
 ghost use Rattle.app_tree.specs.View.{shape_of};
-ghost use Rattle.session_model.specs.Output.{send_lines, over_text};
+ghost use Rattle.session_model.specs.WrittenLines.{send_lines, over_text};
 ghost use Rattle.flush_cycle.specs.Built.{IsBuilt};
 ghost use Rattle.flush_cycle.specs.Flushing.{flushed_by};
 ghost use Rattle.shiny_main.specs.Replaying.{AnswersFirst, AnswersLater, event_lines};

@@ -334,6 +334,55 @@ fn faults_leave_a_front_of_the_output(rt: HostRuntime) -> Result<(), Fail> {
     Ok(())
 }
 
+/// Whether the replay of a transcript, of which this take of the input fails, ends so with this output.
+fn fault_leaves(
+    alloc: Global,
+    transcript: &[&str],
+    take: u64,
+    status: Status,
+    output: &[&str],
+) -> Result<bool, Memory> {
+    let takes = [take];
+    let failing = Failing {
+        reads: &[],
+        takes: &takes,
+        puts: &[],
+        notes: &[],
+    };
+    let ran = replays(alloc, COUNTER, transcript, &failing)?;
+    let output = joined(alloc, output)?;
+    let note = match status {
+        Status::ReadFault => "read fault\n",
+        _ => "",
+    };
+    Ok(
+        ran.status == status
+            && ran.output.as_slice() == output.as_slice()
+            && ran.note.as_slice() == note.as_bytes(),
+    )
+}
+
+/// A read fault leaves exactly the output of the lines that were read whole. A source that has told its
+/// end is not asked again.
+#[test]
+fn read_faults_leave_the_output_of_whole_lines(rt: HostRuntime) -> Result<(), Fail> {
+    let alloc = rt.alloc();
+    let fault = Status::ReadFault;
+    let half = "s recv {\"method\":\"upd";
+    let long = padded_update(alloc, 5_000)?;
+    let one = [CONFIG, RUN, ONE];
+    let two = [CONFIG, RUN, ONE, RUN, TWO];
+    let whole = [CONFIG, RUN, ONE, OVER];
+    assert!(rt; fault_leaves(alloc, &[INIT, half], 1, fault, &[])?);
+    assert!(rt; fault_leaves(alloc, &[INIT, half], 2, fault, &one)?);
+    assert!(rt; fault_leaves(alloc, &[INIT, UPDATE, half], 2, fault, &two)?);
+    assert!(rt; fault_leaves(alloc, &[INIT, long.as_str(), "\n"], 2, fault, &one)?);
+    assert!(rt; fault_leaves(alloc, &[INIT_CUT], 2, fault, &[])?);
+    assert!(rt; fault_leaves(alloc, &[INIT_CUT], 3, Status::Done, &whole)?);
+    assert!(rt; fault_leaves(alloc, &[INIT], 3, Status::Done, &whole)?);
+    Ok(())
+}
+
 /// An init, and so many updates that change nothing.
 fn init_and_updates(alloc: Global, updates: usize) -> Result<String, AllocError> {
     let mut lines = String::from_str(alloc, INIT)?;

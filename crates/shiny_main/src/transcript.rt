@@ -1,12 +1,12 @@
 ghost use Rattle.std.specs.Prelude.{◌≡◌, ◌≤◌, List, [], IfOk, codes};
 ghost use Rattle.app_tree.specs.View.{shape_of};
 ghost use Rattle.session_model.specs.Transcript.{Open};
-ghost use Rattle.session_model.specs.Output.{over_text};
-ghost use Rattle.shiny_main.specs.Lines.{remaining};
+ghost use Rattle.session_model.specs.WrittenLines.{over_text};
+ghost use Rattle.shiny_main.specs.Lines.{at_start, IsOfSource};
 ghost use Rattle.flush_cycle.specs.Built.{IsBuilt};
-ghost use Rattle.shiny_main.specs.Replaying.{HoldsSession, ReplayGives, ReadFaults, PutsAnswer, PutsOver, ClosesOpen, Closes, AnswersTaken, TurnGives, WriteFaults, TurnReadFaults, TurnWriteFaults};
+ghost use Rattle.shiny_main.specs.Replaying.{HoldsSession, HasFewBehind, ReplayGives, ReadFaults, PutsAnswer, PutsOver, ClosesOpen, Closes, AnswersTaken, TurnGives, WriteFaults, TurnReadFaults, TurnWriteFaults};
 
-use crate::lines::{Lines, NextLine};
+use crate::lines::{LineRead, Lines};
 use crate::replay::{Taken, take_line};
 use crate::session::{Answered, OpenSession, push_over};
 use app_tree::App;
@@ -101,26 +101,27 @@ fn take_turn<S: Source, K: Sink>(
     app: &Arc<App>,
     lines: &mut Lines,
     session: Option<OpenSession>,
-    number: u64,
     input: &mut S,
     out: &mut K,
 ) -> Turn
-    requires { IsBuilt (shape_of app.now.value) }
-    ensures gives { (s : List Open) → HoldsSession (shape_of app.now.value) number s session → TurnGives (shape_of app.now.value) number s (remaining lines.old (S.left input.old)) (remaining lines.new (S.left input.new)) (S.left input.new) (K.held out.old) (K.held out.new) result }
+    requires built { IsBuilt (shape_of app.now.value) }
+    requires lines { IsOfSource lines.old (S.left input.old) }
+    requires short { HasFewBehind lines.old }
+    ensures gives { (s : List Open) → HoldsSession (shape_of app.now.value) lines.old.number s session → TurnGives (shape_of app.now.value) s lines.old lines.new (S.left input.old) (S.left input.new) (K.held out.old) (K.held out.new) result }
     ensures read_later { S.faults input.old ≤ S.faults input.new }
     ensures write_later { K.faults out.old ≤ K.faults out.new }
     ensures read { TurnReadFaults (S.faults input.old) (S.faults input.new) result }
     ensures write { TurnWriteFaults (K.faults out.old) (K.faults out.new) result }
 {
     match lines.next(alloc, input) {
-        NextLine::Line(line) => {
-            let taken = take_line(alloc, app, session, number, line.as_slice());
+        LineRead::Line(number, said) => {
+            let taken = take_line(alloc, app, session, number, said);
             answer_taken(taken, number, out)
         }
-        NextLine::TooLong => Turn::Ends(Replayed::BadLine(number)),
-        NextLine::End => Turn::Ends(close(alloc, session, out)),
-        NextLine::Failed => Turn::Ends(Replayed::ReadFault),
-        NextLine::Memory => Turn::Ends(Replayed::Memory),
+        LineRead::Bad(number) => Turn::Ends(Replayed::BadLine(number)),
+        LineRead::End => Turn::Ends(close(alloc, session, out)),
+        LineRead::ReadFault => Turn::Ends(Replayed::ReadFault),
+        LineRead::Memory => Turn::Ends(Replayed::Memory),
     }
 }
 
@@ -138,6 +139,31 @@ fn answer_taken<K: Sink>(taken: Result<Taken, Memory>, number: u64, out: &mut K)
     }
 }
 
+fn replay_lines<S: Source, K: Sink>(
+    alloc: Global,
+    app: &Arc<App>,
+    lines: Lines,
+    input: &mut S,
+    out: &mut K,
+) -> Replayed
+    requires built { IsBuilt (shape_of app.now.value) }
+    requires start { lines ≡ at_start }
+    ensures gives { ReplayGives (shape_of app.now.value) 1 [] (S.left input.old) (S.left input.new) (K.held out.old) (K.held out.new) result }
+    ensures read_later { S.faults input.old ≤ S.faults input.new }
+    ensures write_later { K.faults out.old ≤ K.faults out.new }
+    ensures read { ReadFaults (S.faults input.old) (S.faults input.new) result }
+    ensures write { WriteFaults (K.faults out.old) (K.faults out.new) result }
+{
+    let mut lines = lines;
+    let mut session = None;
+    'lines: loop {
+        match take_turn(alloc, app, &mut lines, session, input, out) {
+            Turn::Goes(next) => session = Some(next),
+            Turn::Ends(end) => return end,
+        }
+    }
+}
+
 /// Replays a transcript: its lines in order, up to its end or the first that is refused.
 pub fn replay<S: Source, K: Sink>(
     alloc: Global,
@@ -146,22 +172,14 @@ pub fn replay<S: Source, K: Sink>(
     out: &mut K,
 ) -> Replayed
     requires { IsBuilt (shape_of app.now.value) }
-    ensures gives { ReplayGives (shape_of app.now.value) 1 [] (remaining [] (S.left input.old)) (S.left input.new) (K.held out.old) (K.held out.new) result }
+    ensures gives { ReplayGives (shape_of app.now.value) 1 [] (S.left input.old) (S.left input.new) (K.held out.old) (K.held out.new) result }
     ensures read_later { S.faults input.old ≤ S.faults input.new }
     ensures write_later { K.faults out.old ≤ K.faults out.new }
     ensures read { ReadFaults (S.faults input.old) (S.faults input.new) result }
     ensures write { WriteFaults (K.faults out.old) (K.faults out.new) result }
 {
-    let mut lines = Lines::new(alloc);
-    let mut session = None;
-    let mut number = 1;
-    'lines: loop {
-        match take_turn(alloc, app, &mut lines, session, number, input, out) {
-            Turn::Goes(next) => {
-                session = Some(next);
-                number += 1;
-            }
-            Turn::Ends(end) => return end,
-        }
+    match Lines::new(alloc) {
+        Ok(lines) => replay_lines(alloc, app, lines, input, out),
+        Err(Memory) => Replayed::Memory,
     }
 }

@@ -1,6 +1,6 @@
 -- Client messages, each case by computing.
 use Rattle.std.proofs.Common.{refl}
-use Rattle.worked_examples.specs.MessageCases.{InputTypes, MessageThatIsNotJson, MessageThatIsNoObject, UpdateBeforeTheInit, SecondInit}
+use Rattle.worked_examples.specs.MessageCases.{InputTypes, MessageThatIsNotJson, MessageThatIsNoObject, UpdateBeforeTheInit, SecondInit, TwoNamesOfOneInput}
 use Rattle.worked_examples.proofs.OnLiterals.{files_on_literals}
 
 pub input_types : InputTypes
@@ -22,3 +22,7 @@ update_before_the_init = refl
 pub second_init : SecondInit
 unfolding files_on_literals
 second_init = refl
+
+pub two_names_of_one_input : TwoNamesOfOneInput
+unfolding files_on_literals
+two_names_of_one_input = refl

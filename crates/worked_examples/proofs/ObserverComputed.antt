@@ -1,6 +1,6 @@
 -- Observers, each case by computing.
 use Rattle.std.proofs.Common.{refl}
-use Rattle.worked_examples.specs.ObserverCases.{WriteInFlush, EndlessFlush, TwoObserversSpendTheBudget, WriteBeforeRead, FailingObserver, InputMessage, FrozenInput}
+use Rattle.worked_examples.specs.ObserverCases.{WriteInFlush, EndlessFlush, TwoObserversSpendTheBudget, WriteBeforeRead, FailingObserver, InputMessage, FrozenInput, MarkedThroughAnExpression}
 use Rattle.worked_examples.proofs.OnLiterals.{files_on_literals}
 
 pub write_in_flush : WriteInFlush
@@ -30,3 +30,7 @@ input_message = refl
 pub frozen_input : FrozenInput
 unfolding files_on_literals
 frozen_input = refl
+
+pub marked_through_an_expression : MarkedThroughAnExpression
+unfolding files_on_literals
+marked_through_an_expression = refl

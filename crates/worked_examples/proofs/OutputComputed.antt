@@ -1,6 +1,6 @@
 -- Outputs, each case by computing.
 use Rattle.std.proofs.Common.{refl}
-use Rattle.worked_examples.specs.OutputCases.{ChangedInput, EqualInput, EmptyApp, TakenBranch, SharedExpression, IsolatedRead, RequiredValues, FailuresAreKept, HiddenOutput, OutputThatRunsWhileHidden}
+use Rattle.worked_examples.specs.OutputCases.{ChangedInput, EqualInput, EmptyApp, TakenBranch, SharedExpression, IsolatedRead, RequiredValues, FailuresAreKept, HiddenOutput, OutputThatRunsWhileHidden, EventThatIsNullAtFirst, CancelAfterAValue}
 use Rattle.worked_examples.proofs.OnLiterals.{files_on_literals}
 
 pub changed_input : ChangedInput
@@ -42,3 +42,11 @@ hidden_output = refl
 pub output_that_runs_while_hidden : OutputThatRunsWhileHidden
 unfolding files_on_literals
 output_that_runs_while_hidden = refl
+
+pub event_that_is_null_at_first : EventThatIsNullAtFirst
+unfolding files_on_literals
+event_that_is_null_at_first = refl
+
+pub cancel_after_a_value : CancelAfterAValue
+unfolding files_on_literals
+cancel_after_a_value = refl

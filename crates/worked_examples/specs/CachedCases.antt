@@ -1,4 +1,4 @@
--- Cached readers in two sessions.
+-- Cached readers, in one session and in two.
 use Rattle.std.specs.Prelude.{◌≡◌, [], ◌∷◌, Some, codes}
 use Rattle.session_model.specs.Transcript.{done}
 use Rattle.worked_examples.specs.Files.{lines, file_replayed}
@@ -70,5 +70,45 @@ SharedFailure =
           codes "y send {\"busy\":\"idle\"}" ∷
           codes "x over ended" ∷
           codes "y over ended" ∷ []);
+      end = done;
+    })
+
+abbrev pub SecondKeyThatFails : Type 0
+SecondKeyThatFails =
+    file_replayed
+    (lines (codes "input a = 1;" ∷
+    codes "input d = 0;" ∷
+    codes "text o cache (input$a, 10 %/% input$d) { input$a + 1 }" ∷ []))
+    (lines (codes "s recv {\"method\":\"init\",\"data\":{\".clientdata_output_o_hidden\":false}}" ∷
+    codes "s recv {\"method\":\"update\",\"data\":{\"a\":2}}" ∷
+    codes "s recv {\"method\":\"update\",\"data\":{\"d\":5}}" ∷
+    codes "s recv {\"method\":\"update\",\"data\":{\"d\":0}}" ∷ []))
+    ≡ Some (record {
+      output = lines (codes "s send {\"config\":{\"sessionId\":\"s\",\"user\":null,\"workerId\":\"\"}}" ∷
+          codes "s send {\"busy\":\"busy\"}" ∷
+          codes "s send {\"progress\":{\"message\":{\"id\":\"o\"},\"type\":\"binding\"}}" ∷
+          codes "s send {\"recalculating\":{\"name\":\"o\",\"status\":\"recalculating\"}}" ∷
+          codes "s send {\"recalculating\":{\"name\":\"o\",\"status\":\"recalculated\"}}" ∷
+          codes "s send {\"errors\":{\"o\":{\"message\":\"division by zero\"}},\"inputMessages\":[],\"values\":{}}" ∷
+          codes "s send {\"busy\":\"idle\"}" ∷
+          codes "s send {\"busy\":\"busy\"}" ∷
+          codes "s send {\"progress\":{\"message\":{\"id\":\"o\"},\"type\":\"binding\"}}" ∷
+          codes "s send {\"recalculating\":{\"name\":\"o\",\"status\":\"recalculating\"}}" ∷
+          codes "s send {\"recalculating\":{\"name\":\"o\",\"status\":\"recalculated\"}}" ∷
+          codes "s send {\"errors\":{\"o\":{\"message\":\"division by zero\"}},\"inputMessages\":[],\"values\":{}}" ∷
+          codes "s send {\"busy\":\"idle\"}" ∷
+          codes "s send {\"busy\":\"busy\"}" ∷
+          codes "s send {\"progress\":{\"message\":{\"id\":\"o\"},\"type\":\"binding\"}}" ∷
+          codes "s send {\"recalculating\":{\"name\":\"o\",\"status\":\"recalculating\"}}" ∷
+          codes "s send {\"recalculating\":{\"name\":\"o\",\"status\":\"recalculated\"}}" ∷
+          codes "s send {\"errors\":{},\"inputMessages\":[],\"values\":{\"o\":\"3\"}}" ∷
+          codes "s send {\"busy\":\"idle\"}" ∷
+          codes "s send {\"busy\":\"busy\"}" ∷
+          codes "s send {\"progress\":{\"message\":{\"id\":\"o\"},\"type\":\"binding\"}}" ∷
+          codes "s send {\"recalculating\":{\"name\":\"o\",\"status\":\"recalculating\"}}" ∷
+          codes "s send {\"recalculating\":{\"name\":\"o\",\"status\":\"recalculated\"}}" ∷
+          codes "s send {\"errors\":{\"o\":{\"message\":\"division by zero\"}},\"inputMessages\":[],\"values\":{}}" ∷
+          codes "s send {\"busy\":\"idle\"}" ∷
+          codes "s over ended" ∷ []);
       end = done;
     })

@@ -9,7 +9,7 @@ use Rattle.app_check.specs.Load.{loaded}
 use Rattle.session_model.specs.declared.event.Event.{Event}
 use Rattle.session_model.specs.Alone.{Ending, ending, bodies_run}
 use Rattle.session_model.specs.Lines.{lines_of}
-use Rattle.session_model.specs.Transcript.{Replayed, replayed}
+use Rattle.session_model.specs.Transcript.{ReplayEnd, Replayed, replayed}
 use Rattle.session_model.specs.TakenLines.{replayed_today}
 
 -- these lines, each with its line feed
@@ -25,13 +25,21 @@ of_app say (Err e) = None
 abbrev pub of_file : {A : Type 0} → (Shape → A) → List ℕ → Option A
 of_file say file = of_app say (loaded file)
 
+-- what a replay wrote, and how it ended
+pub record Written : Type 0 where
+  pub output : List ℕ
+  pub end : ReplayEnd
+
+abbrev pub written : Replayed → Written
+written r = record { output = r.output; end = r.end }
+
 -- the replay of a transcript
-abbrev pub file_replayed : List ℕ → List ℕ → Option Replayed
-file_replayed file transcript = of_file (λ app. replayed app transcript) file
+abbrev pub file_replayed : List ℕ → List ℕ → Option Written
+file_replayed file transcript = of_file (λ app. written (replayed app transcript)) file
 
 -- the replay of the lines that are taken today
-abbrev pub file_replayed_today : List ℕ → List ℕ → Option Replayed
-file_replayed_today file transcript = of_file (λ app. replayed_today app transcript) file
+abbrev pub file_replayed_today : List ℕ → List ℕ → Option Written
+file_replayed_today file transcript = of_file (λ app. written (replayed_today app transcript)) file
 
 -- how long an output is
 pub record Sizes : Type 0 where

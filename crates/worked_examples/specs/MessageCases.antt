@@ -86,3 +86,36 @@ SecondInit =
           codes "s over refused 2 SecondInit" ∷ []);
       end = done;
     })
+
+abbrev pub TwoNamesOfOneInput : Type 0
+TwoNamesOfOneInput =
+    file_replayed
+    (lines (codes "input n = 1;" ∷
+    codes "text o { input$n }" ∷ []))
+    (lines (codes "s recv {\"method\":\"init\",\"data\":{\"n\":1,\".clientdata_output_o_hidden\":false}}" ∷
+    codes "s recv {\"method\":\"update\",\"data\":{\"n:shiny.number\":1,\"n\":2}}" ∷
+    codes "s recv {\"method\":\"update\",\"data\":{\"n:shiny.number\":1,\"n\":1}}" ∷
+    codes "s recv {\"method\":\"update\",\"data\":{\"n:shiny.number\":3,\"n\":1}}" ∷ []))
+    ≡ Some (record {
+      output = lines (codes "s send {\"config\":{\"sessionId\":\"s\",\"user\":null,\"workerId\":\"\"}}" ∷
+          codes "s send {\"busy\":\"busy\"}" ∷
+          codes "s send {\"progress\":{\"message\":{\"id\":\"o\"},\"type\":\"binding\"}}" ∷
+          codes "s send {\"recalculating\":{\"name\":\"o\",\"status\":\"recalculating\"}}" ∷
+          codes "s send {\"recalculating\":{\"name\":\"o\",\"status\":\"recalculated\"}}" ∷
+          codes "s send {\"errors\":{},\"inputMessages\":[],\"values\":{\"o\":\"1\"}}" ∷
+          codes "s send {\"busy\":\"idle\"}" ∷
+          codes "s send {\"busy\":\"busy\"}" ∷
+          codes "s send {\"progress\":{\"message\":{\"id\":\"o\"},\"type\":\"binding\"}}" ∷
+          codes "s send {\"recalculating\":{\"name\":\"o\",\"status\":\"recalculating\"}}" ∷
+          codes "s send {\"recalculating\":{\"name\":\"o\",\"status\":\"recalculated\"}}" ∷
+          codes "s send {\"errors\":{},\"inputMessages\":[],\"values\":{\"o\":\"1\"}}" ∷
+          codes "s send {\"busy\":\"idle\"}" ∷
+          codes "s send {\"busy\":\"busy\"}" ∷
+          codes "s send {\"progress\":{\"message\":{\"id\":\"o\"},\"type\":\"binding\"}}" ∷
+          codes "s send {\"recalculating\":{\"name\":\"o\",\"status\":\"recalculating\"}}" ∷
+          codes "s send {\"recalculating\":{\"name\":\"o\",\"status\":\"recalculated\"}}" ∷
+          codes "s send {\"errors\":{},\"inputMessages\":[],\"values\":{\"o\":\"3\"}}" ∷
+          codes "s send {\"busy\":\"idle\"}" ∷
+          codes "s over ended" ∷ []);
+      end = done;
+    })

@@ -138,3 +138,24 @@ FrozenInput =
           codes "s over ended" ∷ []);
       end = done;
     })
+
+abbrev pub MarkedThroughAnExpression : Type 0
+MarkedThroughAnExpression =
+    file_replayed
+    (lines (codes "budget 4;" ∷
+    codes "value v = 0;" ∷
+    codes "reactive e { v() + 1 }" ∷
+    codes "observe w { if (e() < 3) { set v = e(); } }" ∷
+    codes "text o priority -1 { v() }" ∷ []))
+    (lines (codes "s recv {\"method\":\"init\",\"data\":{\".clientdata_output_o_hidden\":false}}" ∷ []))
+    ≡ Some (record {
+      output = lines (codes "s send {\"config\":{\"sessionId\":\"s\",\"user\":null,\"workerId\":\"\"}}" ∷
+          codes "s send {\"busy\":\"busy\"}" ∷
+          codes "s send {\"progress\":{\"message\":{\"id\":\"o\"},\"type\":\"binding\"}}" ∷
+          codes "s send {\"recalculating\":{\"name\":\"o\",\"status\":\"recalculating\"}}" ∷
+          codes "s send {\"recalculating\":{\"name\":\"o\",\"status\":\"recalculated\"}}" ∷
+          codes "s send {\"errors\":{},\"inputMessages\":[],\"values\":{\"o\":\"2\"}}" ∷
+          codes "s send {\"busy\":\"idle\"}" ∷
+          codes "s over ended" ∷ []);
+      end = done;
+    })

@@ -305,3 +305,86 @@ OutputThatRunsWhileHidden =
           codes "s over ended" ∷ []);
       end = done;
     })
+
+abbrev pub EventThatIsNullAtFirst : Type 0
+EventThatIsNullAtFirst =
+    file_replayed
+    (lines (codes "input go = NULL;" ∷
+    codes "input b = 5;" ∷
+    codes "event e ignoreInit (input$go) { input$go + input$b }" ∷
+    codes "text o { e() }" ∷ []))
+    (lines (codes "s recv {\"method\":\"init\",\"data\":{\".clientdata_output_o_hidden\":false}}" ∷
+    codes "s recv {\"method\":\"update\",\"data\":{\"b\":7}}" ∷
+    codes "s recv {\"method\":\"update\",\"data\":{\"go\":1}}" ∷
+    codes "s recv {\"method\":\"update\",\"data\":{\"b\":9}}" ∷
+    codes "s recv {\"method\":\"update\",\"data\":{\"go\":null}}" ∷
+    codes "s recv {\"method\":\"update\",\"data\":{\"go\":2}}" ∷ []))
+    ≡ Some (record {
+      output = lines (codes "s send {\"config\":{\"sessionId\":\"s\",\"user\":null,\"workerId\":\"\"}}" ∷
+          codes "s send {\"busy\":\"busy\"}" ∷
+          codes "s send {\"progress\":{\"message\":{\"id\":\"o\"},\"type\":\"binding\"}}" ∷
+          codes "s send {\"recalculating\":{\"name\":\"o\",\"status\":\"recalculating\"}}" ∷
+          codes "s send {\"recalculating\":{\"name\":\"o\",\"status\":\"recalculated\"}}" ∷
+          codes "s send {\"errors\":{\"o\":{\"message\":\"\",\"type\":[\"shiny.silent.error\"]}},\"inputMessages\":[],\"values\":{}}" ∷
+          codes "s send {\"busy\":\"idle\"}" ∷
+          codes "s send {\"busy\":\"busy\"}" ∷
+          codes "s send {\"progress\":{\"message\":{\"id\":\"o\"},\"type\":\"binding\"}}" ∷
+          codes "s send {\"recalculating\":{\"name\":\"o\",\"status\":\"recalculating\"}}" ∷
+          codes "s send {\"recalculating\":{\"name\":\"o\",\"status\":\"recalculated\"}}" ∷
+          codes "s send {\"errors\":{},\"inputMessages\":[],\"values\":{\"o\":\"8\"}}" ∷
+          codes "s send {\"busy\":\"idle\"}" ∷
+          codes "s send {\"busy\":\"busy\"}" ∷
+          codes "s send {\"progress\":{\"message\":{\"id\":\"o\"},\"type\":\"binding\"}}" ∷
+          codes "s send {\"recalculating\":{\"name\":\"o\",\"status\":\"recalculating\"}}" ∷
+          codes "s send {\"recalculating\":{\"name\":\"o\",\"status\":\"recalculated\"}}" ∷
+          codes "s send {\"errors\":{\"o\":{\"message\":\"\",\"type\":[\"shiny.silent.error\"]}},\"inputMessages\":[],\"values\":{}}" ∷
+          codes "s send {\"busy\":\"idle\"}" ∷
+          codes "s send {\"busy\":\"busy\"}" ∷
+          codes "s send {\"progress\":{\"message\":{\"id\":\"o\"},\"type\":\"binding\"}}" ∷
+          codes "s send {\"recalculating\":{\"name\":\"o\",\"status\":\"recalculating\"}}" ∷
+          codes "s send {\"recalculating\":{\"name\":\"o\",\"status\":\"recalculated\"}}" ∷
+          codes "s send {\"errors\":{},\"inputMessages\":[],\"values\":{\"o\":\"11\"}}" ∷
+          codes "s send {\"busy\":\"idle\"}" ∷
+          codes "s over ended" ∷ []);
+      end = done;
+    })
+
+abbrev pub CancelAfterAValue : Type 0
+CancelAfterAValue =
+    file_replayed
+    (lines (codes "input a = \"x\";" ∷
+    codes "value v = \"x\";" ∷
+    codes "text o { paste0(input$a, req(v(), cancelOutput)) }" ∷
+    codes "observe w priority -1 { set v = input$a; }" ∷ []))
+    (lines (codes "s recv {\"method\":\"init\",\"data\":{\".clientdata_output_o_hidden\":false}}" ∷
+    codes "s recv {\"method\":\"update\",\"data\":{\"a\":\"\"}}" ∷
+    codes "s recv {\"method\":\"update\",\"data\":{\"a\":\"y\"}}" ∷ []))
+    ≡ Some (record {
+      output = lines (codes "s send {\"config\":{\"sessionId\":\"s\",\"user\":null,\"workerId\":\"\"}}" ∷
+          codes "s send {\"busy\":\"busy\"}" ∷
+          codes "s send {\"progress\":{\"message\":{\"id\":\"o\"},\"type\":\"binding\"}}" ∷
+          codes "s send {\"recalculating\":{\"name\":\"o\",\"status\":\"recalculating\"}}" ∷
+          codes "s send {\"recalculating\":{\"name\":\"o\",\"status\":\"recalculated\"}}" ∷
+          codes "s send {\"errors\":{},\"inputMessages\":[],\"values\":{\"o\":\"xx\"}}" ∷
+          codes "s send {\"busy\":\"idle\"}" ∷
+          codes "s send {\"busy\":\"busy\"}" ∷
+          codes "s send {\"progress\":{\"message\":{\"id\":\"o\"},\"type\":\"binding\"}}" ∷
+          codes "s send {\"recalculating\":{\"name\":\"o\",\"status\":\"recalculating\"}}" ∷
+          codes "s send {\"recalculating\":{\"name\":\"o\",\"status\":\"recalculated\"}}" ∷
+          codes "s send {\"progress\":{\"message\":{\"id\":\"o\"},\"type\":\"binding\"}}" ∷
+          codes "s send {\"recalculating\":{\"name\":\"o\",\"status\":\"recalculating\"}}" ∷
+          codes "s send {\"recalculating\":{\"name\":\"o\",\"status\":\"recalculated\"}}" ∷
+          codes "s send {\"errors\":{},\"inputMessages\":[],\"values\":{\"o\":\"x\"}}" ∷
+          codes "s send {\"busy\":\"idle\"}" ∷
+          codes "s send {\"busy\":\"busy\"}" ∷
+          codes "s send {\"progress\":{\"message\":{\"id\":\"o\"},\"type\":\"binding\"}}" ∷
+          codes "s send {\"recalculating\":{\"name\":\"o\",\"status\":\"recalculating\"}}" ∷
+          codes "s send {\"recalculating\":{\"name\":\"o\",\"status\":\"recalculated\"}}" ∷
+          codes "s send {\"progress\":{\"message\":{\"id\":\"o\"},\"type\":\"binding\"}}" ∷
+          codes "s send {\"recalculating\":{\"name\":\"o\",\"status\":\"recalculating\"}}" ∷
+          codes "s send {\"recalculating\":{\"name\":\"o\",\"status\":\"recalculated\"}}" ∷
+          codes "s send {\"errors\":{},\"inputMessages\":[],\"values\":{\"o\":\"yy\"}}" ∷
+          codes "s send {\"busy\":\"idle\"}" ∷
+          codes "s over ended" ∷ []);
+      end = done;
+    })

@@ -1,5 +1,5 @@
 -- Tasks: their invocations and their ends.
-use Rattle.std.specs.Prelude.{◌≡◌, [], ◌∷◌, Some, codes}
+use Rattle.std.specs.Prelude.{◌≡◌, ℕ, zero, suc, List, [], ◌∷◌, ◌++◌, Some, codes}
 use Rattle.session_model.specs.Transcript.{done, not_running}
 use Rattle.worked_examples.specs.Files.{lines, file_replayed}
 
@@ -117,4 +117,39 @@ EndOfATaskThatDoesNotRun =
           codes "s send {\"errors\":{},\"inputMessages\":[],\"values\":{\"o\":\"success\",\"r\":\"4\"}}" ∷
           codes "s send {\"busy\":\"idle\"}" ∷ []);
       end = not_running 6;
+    })
+
+-- a text so many times
+abbrev pub times : ℕ → List ℕ → List ℕ
+times zero text = []
+times (suc n) text = text ++ times n text
+
+-- an observer that invokes a task so many times in one run
+abbrev pub invoking : ℕ → List ℕ
+invoking n = lines (codes "task t () { 0 }" ∷ codes "observe w {" ∷ []) ++ times n (codes "invoke t();") ++ codes "}"
+
+abbrev pub FullTaskQueue : Type 0
+FullTaskQueue =
+    file_replayed
+    (invoking 1002)
+    (lines (codes "s recv {\"method\":\"init\",\"data\":{}}" ∷ []))
+    ≡ Some (record {
+      output = lines (codes "s send {\"config\":{\"sessionId\":\"s\",\"user\":null,\"workerId\":\"\"}}" ∷
+          codes "s send {\"busy\":\"busy\"}" ∷
+          codes "s over observer \"task queue is full\"" ∷ []);
+      end = done;
+    })
+
+abbrev pub TaskQueueThatHoldsAll : Type 0
+TaskQueueThatHoldsAll =
+    file_replayed
+    (invoking 1001)
+    (lines (codes "s recv {\"method\":\"init\",\"data\":{}}" ∷ []))
+    ≡ Some (record {
+      output = lines (codes "s send {\"config\":{\"sessionId\":\"s\",\"user\":null,\"workerId\":\"\"}}" ∷
+          codes "s send {\"busy\":\"busy\"}" ∷
+          codes "s send {\"errors\":{},\"inputMessages\":[],\"values\":{}}" ∷
+          codes "s send {\"busy\":\"idle\"}" ∷
+          codes "s over ended" ∷ []);
+      end = done;
     })

@@ -1,6 +1,6 @@
 //! Client messages: how their values are read, and which are refused.
 
-ghost use Rattle.worked_examples.specs.MessageCases.{InputTypes, MessageThatIsNotJson, MessageThatIsNoObject, UpdateBeforeTheInit, SecondInit};
+ghost use Rattle.worked_examples.specs.MessageCases.{InputTypes, MessageThatIsNotJson, MessageThatIsNoObject, UpdateBeforeTheInit, SecondInit, TwoNamesOfOneInput};
 
 /// The type of an input's name is left out, and a number with a fraction counts as nothing.
 #[tactic(auto, using(crate::proofs::MessageComputed::input_types))]
@@ -30,4 +30,10 @@ pub fn update_before_the_init()
 #[tactic(auto, using(crate::proofs::MessageComputed::second_init))]
 pub fn second_init()
     ensures { SecondInit }
+{}
+
+/// Two names in one message that set one input are two changes, in the order of the names: its readers run though it ends as it was.
+#[tactic(auto, using(crate::proofs::MessageComputed::two_names_of_one_input))]
+pub fn two_names_of_one_input()
+    ensures { TwoNamesOfOneInput }
 {}

@@ -1,6 +1,6 @@
 //! Observers: what they write, and how they end a session.
 
-ghost use Rattle.worked_examples.specs.ObserverCases.{WriteInFlush, EndlessFlush, TwoObserversSpendTheBudget, WriteBeforeRead, FailingObserver, InputMessage, FrozenInput};
+ghost use Rattle.worked_examples.specs.ObserverCases.{WriteInFlush, EndlessFlush, TwoObserversSpendTheBudget, WriteBeforeRead, FailingObserver, InputMessage, FrozenInput, MarkedThroughAnExpression};
 
 /// An observer of lower priority writes what an output has read, so the output runs again.
 #[tactic(auto, using(crate::proofs::ObserverComputed::write_in_flush))]
@@ -42,4 +42,10 @@ pub fn input_message()
 #[tactic(auto, using(crate::proofs::ObserverComputed::frozen_input))]
 pub fn frozen_input()
     ensures { FrozenInput }
+{}
+
+/// An observer that writes what an expression depends on that it has read runs again, until it writes no more.
+#[tactic(auto, using(crate::proofs::ObserverComputed::marked_through_an_expression))]
+pub fn marked_through_an_expression()
+    ensures { MarkedThroughAnExpression }
 {}

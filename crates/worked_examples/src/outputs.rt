@@ -1,6 +1,6 @@
 //! Outputs: what they show, and when they run.
 
-ghost use Rattle.worked_examples.specs.OutputCases.{ChangedInput, EqualInput, EmptyApp, TakenBranch, SharedExpression, IsolatedRead, RequiredValues, FailuresAreKept, HiddenOutput, OutputThatRunsWhileHidden};
+ghost use Rattle.worked_examples.specs.OutputCases.{ChangedInput, EqualInput, EmptyApp, TakenBranch, SharedExpression, IsolatedRead, RequiredValues, FailuresAreKept, HiddenOutput, OutputThatRunsWhileHidden, EventThatIsNullAtFirst, CancelAfterAValue};
 
 /// An output shows the new value of an input that it reads.
 #[tactic(auto, using(crate::proofs::OutputComputed::changed_input))]
@@ -60,4 +60,16 @@ pub fn hidden_output()
 #[tactic(auto, using(crate::proofs::OutputComputed::output_that_runs_while_hidden))]
 pub fn output_that_runs_while_hidden()
     ensures { OutputThatRunsWhileHidden }
+{}
+
+/// A first run that stops at NULL is the one that `ignoreInit` leaves out, so the first value of the event runs the body.
+#[tactic(auto, using(crate::proofs::OutputComputed::event_that_is_null_at_first))]
+pub fn event_that_is_null_at_first()
+    ensures { EventThatIsNullAtFirst }
+{}
+
+/// Where an output runs twice in one flush and is cancelled the second time, the client is told the value of the first run.
+#[tactic(auto, using(crate::proofs::OutputComputed::cancel_after_a_value))]
+pub fn cancel_after_a_value()
+    ensures { CancelAfterAValue }
 {}

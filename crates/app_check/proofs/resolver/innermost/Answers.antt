@@ -8,7 +8,7 @@ loop-place-init c = innermost-split (λ (v : Bor (List ℕ)). v.now) c.args.vari
 
 pub loop-place-preserved : goal.loop-place-preserved
 loop-place-preserved c =
-    innermost_step (λ (v : Bor (List ℕ)). v.now) c.args.variables.now c.loop-place.place c.index-variables-place.result c.args.name.now c.same.result c.loop-place.found c.if-same.found _ c.loop-place-test.true c.index-variables-place.is c.same.ensures
+    innermost_step (λ (v : Bor (List ℕ)). v.now) c.args.variables.now c.loop-place.place c.index-variables-place.result c.args.name.now c.same.result c.loop-place.found c.if-same.found _ c.loop-place-test.true c.index-variables-place.is c.same.ensures.test
     (elim c.if-same.branch [
       | then-same w ↦ w.found-is ∙ sym (ap (λ b. cond b (Some c.loop-place.place) c.loop-place.found) w.if-same.true)
       | else-same w ↦ w.found-is ∙ sym (ap (λ b. cond b (Some c.loop-place.place) c.loop-place.found) w.if-same.false)

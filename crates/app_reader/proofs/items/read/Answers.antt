@@ -7,4 +7,4 @@ pub new-requires : goal.new-requires
 new-requires c =
     let cut = c.know_cut.ensures in
     read_fits c.args.tokens.now (Ok (record { budget = c.in_ok-budget.budget; items = c.in_ok-budget.items })) c.in_ok-budget.ensures
-    (tokens_from_fits true 0 0 cut.text c.args.tokens.now.tokens cut.cut)
+    (tokens_from_fits true 0 cut.text c.args.tokens.now.tokens cut.utf8 cut.cut)

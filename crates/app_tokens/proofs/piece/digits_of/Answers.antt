@@ -1,5 +1,5 @@
 use Rattle.app_tokens.proofs.Digits.{take-length-take_while, AreDigits-take_while}
-use Rattle.app_tokens.specs.Scan.{is_digit}
+use Rattle.rx_value.specs.Names.{is_digit}
 use Rattle.app_tokens.proofs.piece.digits_of.Goals as goal
 
 pub returns-clause-spelled : goal.returns-clause-spelled

@@ -1,5 +1,5 @@
 use Rattle.app_tokens.proofs.Digits.{take-length-take_while}
-use Rattle.app_tokens.specs.Scan.{is_of_word}
+use Rattle.rx_value.specs.Names.{is_of_word}
 use Rattle.app_tokens.proofs.piece.word_of.Goals as goal
 
 pub returns : goal.returns

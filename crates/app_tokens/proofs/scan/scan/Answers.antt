@@ -48,4 +48,4 @@ new-requires c =
     let none : length c.loop-rest.rest.now ≡ 0 = grind arith in
     let whole : c.args.whole ≡ true = grind arith in
     let cut = scan_accepts c.args.whole c.args.text.now c.loop-rest.rest.now c.loop-rest.tokens.items c.loop-rest.tokens.items none c.loop-rest.invariant.said whole refl in
-    record { text = c.args.text.now; cut = subst (λ w. tokens_from w 0 0 c.args.text.now ≡ Ok c.loop-rest.tokens.items) whole cut }
+    record { text = c.args.text.now; utf8 = c.utf8.text; cut = subst (λ w. tokens_from w 0 0 c.args.text.now ≡ Ok c.loop-rest.tokens.items) whole cut }

@@ -1,5 +1,5 @@
 use Rattle.std.proofs.Common.{◌≡◌, ◌++◌, drop}
-use Rattle.session_model.specs.Output.{send_lines}
+use Rattle.session_model.specs.WrittenLines.{send_lines}
 use Rattle.shiny_main.proofs.session.push_sends.Given as goal
 
 abbrev pub invariant-loop-text : goal.invariant-loop-text

@@ -1,0 +1,12 @@
+pub mod Agreeing
+pub mod Asking
+pub mod WhatIsAsked
+pub mod Repeating
+pub mod NodesAgree
+pub mod KnownLists
+pub mod Covering
+pub mod FirstRun
+pub mod CoveredReads
+pub mod Reaching
+pub mod WellOrdered
+pub mod Keyed

@@ -1,0 +1,13 @@
+pub mod Now
+pub mod Sound
+pub mod Laws
+pub mod RunLaws
+pub mod StepLaws
+pub mod RightLaws
+pub mod VisitLaws
+pub mod VisitExample
+pub mod StandingLaws
+pub mod Parted
+pub mod Apart
+pub mod FullJournal
+pub mod TakenWhole

@@ -1,8 +1,0 @@
--- What is expected of an app that a text can give and no check refuses.
-use Rattle.app_tree.specs.Tree.{Shape}
-use Rattle.app_tree.specs.WellFormed.{IsWellFormed}
-use Rattle.session_model.specs.Orderly.{IsOrderly}
-
--- its expressions read earlier ones alone, and each isolated site of a reader has a number of its own
-abbrev pub WellFormedIsOrderly : Type 0
-WellFormedIsOrderly = (app : Shape) → IsWellFormed app → IsOrderly app
