@@ -12,7 +12,7 @@ use Rattle.session_model.specs.State.{first_state}
 use Rattle.session_model.specs.Journal.{text_byte_limit, text_bytes, is_full}
 use Rattle.session_model.specs.Alone.{JournalResult, first_result, after_event, texts_of_event, result_from, answers_from, answers, ending}
 use Rattle.session_model.specs.Faithful.{LinkItem, text_item, LinkTexts, client_items, EachOfRunning, EndsOnlyLast, has_end, IsToldFaithfully}
-use Rattle.session_model.specs.FaithfulExamples.{empty, init, update, config, busy, no_values, idle, OpenIsFaithful, EndedIsFaithful, LinkFailedIsFaithful, RefusedIsFaithful, BudgetSpentIsFaithful, ObserverFailedIsFaithful, JournalFullIsFaithful, MemoryIsFaithful, LinkMemoryIsFaithful, SilentLinkIsFaithful, WithheldText, UncountedFault, ShortJournal, EarlyEnd, EndOfAnotherInvocation, EventBehindTheEnd, OpenBehindTheEnd}
+use Rattle.session_model.specs.FaithfulExamples.{empty, init, update, config, busy, no_values, idle, OpenIsFaithful, EndedIsFaithful, LinkFailedIsFaithful, RefusedIsFaithful, BudgetSpentIsFaithful, ObserverFailedIsFaithful, JournalFullIsFaithful, MemoryIsFaithful, LinkMemoryIsFaithful, SilentLinkIsFaithful, WithheldText, UncountedFault, ShortJournal, EarlyEnd, EndOfAnotherInvocation, EventBehindTheEnd, OpenBehindTheEnd, FailureBehindARefusal, FailureBehindTheEnd}
 
 -- what is said of the texts that a link tells is said of these
 told_by : (app : Shape) (label : List ℕ) (journal : List Event) (why : Option Reason) (t : LinkTexts) → IsToldFaithfully app label t journal why → (texts : LinkTexts) → Some t ≡ Some texts → IsToldFaithfully app label texts journal why
@@ -52,7 +52,7 @@ unfolding serde_json_on_literals digits
 link_failed_is_faithful = record {
   running = (tt, tt);
   last = tt;
-  ends = tt;
+  ends = refl;
   fault = λ e. omega arith;
   full = λ e. cc;
   told = told_by _ _ _ _ _ (record { received = refl; sent = record { rest = busy ∷ no_values ∷ idle ∷ []; is = refl }; ended = λ e. cc });
@@ -107,7 +107,7 @@ unfolding serde_json_on_literals digits
 link_memory_is_faithful = record {
   running = (tt, tt);
   last = tt;
-  ends = tt;
+  ends = refl;
   fault = λ e. cc;
   full = λ e. cc;
   told = told_by _ _ _ _ _ (record { received = refl; sent = record { rest = no_values ∷ idle ∷ []; is = refl }; ended = λ e. cc });
@@ -233,3 +233,11 @@ event_behind_the_end f = let last = f.last in cc
 pub open_behind_the_end : OpenBehindTheEnd
 unfolding serde_json_on_literals digits
 open_behind_the_end f = let ends = f.ends in cc
+
+pub failure_behind_a_refusal : FailureBehindARefusal
+unfolding serde_json_on_literals digits
+failure_behind_a_refusal h = let e : false ≡ true = h.ends in cc
+
+pub failure_behind_the_end : FailureBehindTheEnd
+unfolding serde_json_on_literals digits
+failure_behind_the_end h = let e : false ≡ true = h.ends in cc

@@ -75,20 +75,21 @@ reason_of (refused k cause) = reason.Refused k cause
 reason_of budget_spent = reason.BudgetSpent
 reason_of (observer_failed t) = reason.ObserverFailed t
 
--- the link may fail where the session goes on, or while the texts of its last flush are sent
-abbrev pub IsOfFlush : Option Ending → Type 0
-IsOfFlush None = ⊤
-IsOfFlush (Some budget_spent) = ⊤
-IsOfFlush (Some (observer_failed t)) = ⊤
-IsOfFlush (Some ended) = ⊥
-IsOfFlush (Some (refused k cause)) = ⊥
+-- a link may fail where the session goes on, and while the texts of its last flush are sent; behind a refusal or the link's
+-- end nothing is sent
+abbrev pub may_fail : Option Ending → Bool
+may_fail None = true
+may_fail (Some budget_spent) = true
+may_fail (Some (observer_failed t)) = true
+may_fail (Some ended) = false
+may_fail (Some (refused k cause)) = false
 
 -- how the journal has to end for each reason, and for a session that is open: want of memory may come whatever the end
 abbrev pub EndsFor : Option Reason → Option Ending → Type 0
 EndsFor None e = e ≡ None
 EndsFor (Some reason.JournalFull) e = e ≡ None
-EndsFor (Some reason.LinkFailed) e = IsOfFlush e
-EndsFor (Some reason.LinkMemory) e = IsOfFlush e
+EndsFor (Some reason.LinkFailed) e = may_fail e ≡ true
+EndsFor (Some reason.LinkMemory) e = may_fail e ≡ true
 EndsFor (Some reason.Memory) e = ⊤
 EndsFor (Some why) None = ⊥
 EndsFor (Some why) (Some end) = reason_of end ≡ why

@@ -191,3 +191,10 @@ EventBehindTheEnd = IsFaithful empty silent_link (Text init ∷ End ∷ Other �
 -- the link's end is in the journal of a session that is said to be open
 abbrev pub OpenBehindTheEnd : Type 0
 OpenBehindTheEnd = IsFaithful empty silent_link (Text init ∷ End ∷ []) None → ⊥
+
+-- nothing is sent in answer to an item that is refused, so no link fails behind one
+abbrev pub FailureBehindARefusal : Type 0
+FailureBehindARefusal = IsFaithful empty (record silent_link { faults = 1 }) (Text (codes "[]") ∷ []) (Some reason.LinkFailed) → ⊥
+
+abbrev pub FailureBehindTheEnd : Type 0
+FailureBehindTheEnd = IsFaithful empty silent_link (Text init ∷ End ∷ []) (Some reason.LinkMemory) → ⊥

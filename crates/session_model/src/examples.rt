@@ -1,7 +1,7 @@
 //! Worked examples of the definitions, which the check finds by computing.
 
 ghost use Rattle.session_model.specs.MissingExample.{CountsTheMissing};
-ghost use Rattle.session_model.specs.FaithfulExamples.{OpenIsFaithful, EndedIsFaithful, LinkFailedIsFaithful, RefusedIsFaithful, BudgetSpentIsFaithful, ObserverFailedIsFaithful, JournalFullIsFaithful, MemoryIsFaithful, LinkMemoryIsFaithful, SilentLinkIsFaithful, WithheldText, UncountedFault, ShortJournal, EarlyEnd, EndOfAnotherInvocation, EventBehindTheEnd, OpenBehindTheEnd};
+ghost use Rattle.session_model.specs.FaithfulExamples.{OpenIsFaithful, EndedIsFaithful, LinkFailedIsFaithful, RefusedIsFaithful, BudgetSpentIsFaithful, ObserverFailedIsFaithful, JournalFullIsFaithful, MemoryIsFaithful, LinkMemoryIsFaithful, SilentLinkIsFaithful, WithheldText, UncountedFault, ShortJournal, EarlyEnd, EndOfAnotherInvocation, EventBehindTheEnd, OpenBehindTheEnd, FailureBehindARefusal, FailureBehindTheEnd};
 ghost use Rattle.session_model.specs.StandingExamples.{StateOfAnotherSize, OutputLeftOut, StaleOutput, OneSourceMore, StaleOutcome, RunningThatNeverRan};
 ghost use Rattle.session_model.specs.StepExamples.{EqualValue, OtherValue, ClientSets, ForgetsSites, RunsTheBudget, StaysEnded, FullOfEvents, FullOfBytes, LastLineTaken, LineTooMany};
 
@@ -30,8 +30,9 @@ pub fn faithful_examples()
 
 /// Does nothing: it is there for its contract. Journals that are not faithful: a text was withheld, a link is said to have
 /// failed that counts no fault, a short journal is said to be full, the link has not ended, an invocation ends that doesn't
-/// run, an event stands behind the link's end, and a session is said to be open behind it.
-#[tactic(auto, using(crate::proofs::FaithfulComputed::withheld_text, crate::proofs::FaithfulComputed::uncounted_fault, crate::proofs::FaithfulComputed::short_journal, crate::proofs::FaithfulComputed::early_end, crate::proofs::FaithfulComputed::end_of_another_invocation, crate::proofs::FaithfulComputed::event_behind_the_end, crate::proofs::FaithfulComputed::open_behind_the_end))]
+/// run, an event stands behind the link's end, a session is said to be open behind it, and a link is said to have failed behind
+/// a refusal or its end.
+#[tactic(auto, using(crate::proofs::FaithfulComputed::withheld_text, crate::proofs::FaithfulComputed::uncounted_fault, crate::proofs::FaithfulComputed::short_journal, crate::proofs::FaithfulComputed::early_end, crate::proofs::FaithfulComputed::end_of_another_invocation, crate::proofs::FaithfulComputed::event_behind_the_end, crate::proofs::FaithfulComputed::open_behind_the_end, crate::proofs::FaithfulComputed::failure_behind_a_refusal, crate::proofs::FaithfulComputed::failure_behind_the_end))]
 pub fn unfaithful_examples()
     ensures text { WithheldText }
     ensures fault { UncountedFault }
@@ -40,6 +41,8 @@ pub fn unfaithful_examples()
     ensures invocation { EndOfAnotherInvocation }
     ensures behind { EventBehindTheEnd }
     ensures open { OpenBehindTheEnd }
+    ensures refusal { FailureBehindARefusal }
+    ensures link_end { FailureBehindTheEnd }
 {}
 
 /// Does nothing: it is there for its contract. What changes and runs come to, that an ended session stays ended, when a
