@@ -2,6 +2,7 @@
 use Rattle.std.proofs.Common.{◌≡◌, ℕ, suc, ◌+◌, ◌≤◌, ◌≢◌, Bool, true, false, cond, List, [], ◌∷◌, ◌++◌, length, take, map, Some, None, refl, sym, ◌∙◌, ap, arith}
 use Rattle.std.proofs.lemmas.List.{length-take, length-map}
 use Rattle.app_tree.specs.declared.refusal.Refusal.{Refusal}
+use Rattle.app_tree.specs.declared.limits.TheConstants.{ITEM_LIMIT}
 use Rattle.app_tree.specs.Tree.{Node, Shape}
 use Rattle.app_tree.specs.Resolve.{resolved, resolved_item}
 use Rattle.app_tree.specs.DraftTree.{WrittenItem, DraftShape}
@@ -29,13 +30,13 @@ none_behind : {A : Type 0} (xs ys : List A) → xs ++ ys ≡ [] → ys ≡ []
 none_behind [] ys e = e
 none_behind (x ∷ xs) ys e = absurd cc
 
-not_too_many : (k : ℕ) (i : WrittenItem) → item_too_many k i ≡ [] → k ≢ 500
+not_too_many : (k : ℕ) (i : WrittenItem) → item_too_many k i ≡ [] → k ≢ ITEM_LIMIT
 not_too_many k i e at = absurd (fails (ap (λ n. item_too_many n i) (sym at) ∙ e))
   where
-    fails : item_too_many 500 i ≡ [] → ⊥
+    fails : item_too_many ITEM_LIMIT i ≡ [] → ⊥
     fails e = cc
 
-pub items_within : (table : List Declared) (k : ℕ) (items : List WrittenItem) → k ≤ 500 → items_faults table k items ≡ [] → k + length items ≤ 500
+pub items_within : (table : List Declared) (k : ℕ) (items : List WrittenItem) → k ≤ ITEM_LIMIT → items_faults table k items ≡ [] → k + length items ≤ ITEM_LIMIT
 items_within table k [] small e = omega arith
 items_within table k (i ∷ more) small e =
     let here = none_in_front (item_faults table k i) (items_faults table (suc k) more) e in
@@ -44,16 +45,16 @@ items_within table k (i ∷ more) small e =
     let rest = items_within table (suc k) more (omega (arith, other)) (none_behind (item_faults table k i) (items_faults table (suc k) more) e) in
     omega (arith, rest)
 
-pub table_within : (table : List Declared) (items : List WrittenItem) → table ≡ declarations items → first_with None (items_faults table 0 (take 501 items)) ≡ None → length table ≤ 500
+pub table_within : (table : List Declared) (items : List WrittenItem) → table ≡ declarations items → first_with None (items_faults table 0 (take (suc ITEM_LIMIT) items)) ≡ None → length table ≤ ITEM_LIMIT
 table_within table items is e =
-    let within = items_within table 0 (take 501 items) (omega arith) (none_found (items_faults table 0 (take 501 items)) e) in
-    omega (arith, within, length-take 501 items, ap length is, length-map items declared_by)
+    let within = items_within table 0 (take (suc ITEM_LIMIT) items) (omega arith) (none_found (items_faults table 0 (take (suc ITEM_LIMIT) items)) e) in
+    omega (arith, within, length-take (suc ITEM_LIMIT) items, ap length is, length-map items declared_by)
 
-pub draft_passes : (d : DraftShape) (table : List Declared) (items : List WrittenItem) → items ≡ d.items → table ≡ declarations items → first_with None (items_faults table 0 (take 501 items)) ≡ None → faults d ≡ []
+pub draft_passes : (d : DraftShape) (table : List Declared) (items : List WrittenItem) → items ≡ d.items → table ≡ declarations items → first_with None (items_faults table 0 (take (suc ITEM_LIMIT) items)) ≡ None → faults d ≡ []
 draft_passes d table items same is e =
-    ap (λ all. items_faults (declarations all) 0 (take 501 all)) (sym same)
-    ∙ ap (λ t. items_faults t 0 (take 501 items)) (sym is)
-    ∙ none_found (items_faults table 0 (take 501 items)) e
+    ap (λ all. items_faults (declarations all) 0 (take (suc ITEM_LIMIT) all)) (sym same)
+    ∙ ap (λ t. items_faults t 0 (take (suc ITEM_LIMIT) items)) (sym is)
+    ∙ none_found (items_faults table 0 (take (suc ITEM_LIMIT) items)) e
 
 pub draft_stands : (d : DraftShape) (table : List Declared) (items : List WrittenItem) (budget : ℕ) (nodes : List Node) → items ≡ d.items → table ≡ declarations items → budget ≡ d.budget → nodes ≡ map (resolved_item table) items
     → resolved d ≡ record { budget = budget; items = nodes }

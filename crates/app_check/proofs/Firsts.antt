@@ -5,7 +5,7 @@ use Rattle.std.proofs.lemmas.Bool.Decides.{nat_tests}
 use Rattle.app_tree.specs.declared.refusal.Refusal.{Refusal}
 use Rattle.app_tree.specs.Tree.{Shape}
 use Rattle.app_tree.specs.Resolve.{resolved}
-use Rattle.app_tree.specs.Faults.{rank_of, precedes, first_with, faults, accepted_or}
+use Rattle.app_tree.specs.Faults.{fault_order, precedes, first_with, faults, accepted_or}
 use Rattle.app_check.specs.Laws.{IsOne, NonePrecedes, IsFirst, RefusesFirst, GivesWherePasses}
 use Rattle.app_check.proofs.Accepted.{none_found}
 
@@ -24,7 +24,7 @@ not_itself : (p i : ℕ) → (nat_lt p p || nat_eq p p && nat_lt i i) ≡ false
 not_itself p i = grind (arith, nat_tests)
 
 chain : (a b c : Refusal) → precedes a b ≡ true → precedes b c ≡ true → precedes a c ≡ true
-chain a b c = chained a.place (rank_of a.fault) b.place (rank_of b.fault) c.place (rank_of c.fault)
+chain a b c = chained a.place (fault_order a.fault) b.place (fault_order b.fault) c.place (fault_order c.fault)
 
 -- the one is at or before the other
 AtOrBefore : Refusal → Refusal → Type 0
@@ -32,8 +32,8 @@ AtOrBefore f b = (f ≡ b) ⊎ (precedes f b ≡ true)
 
 at_or_before : (f b : Refusal) → AtOrBefore f b → precedes b f ≡ false
 unfolding AtOrBefore
-at_or_before f b (inl same) = ap (λ x. precedes b x) same ∙ not_itself b.place (rank_of b.fault)
-at_or_before f b (inr p) = never_both f.place (rank_of f.fault) b.place (rank_of b.fault) p
+at_or_before f b (inl same) = ap (λ x. precedes b x) same ∙ not_itself b.place (fault_order b.fault)
+at_or_before f b (inr p) = never_both f.place (fault_order f.fault) b.place (fault_order b.fault) p
 
 through : (f b r : Refusal) → AtOrBefore f b → precedes b r ≡ true → AtOrBefore f r
 unfolding AtOrBefore

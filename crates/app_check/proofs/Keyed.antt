@@ -10,14 +10,15 @@ use Rattle.std.proofs.lemmas.Map.Text.{btree_map_updates_str}
 use Rattle.std.proofs.lemmas.Slice.Eq.{bytes_eq-Decides}
 use Rattle.app_tree.specs.declared.item.Sort.{Sort}
 use Rattle.app_tree.specs.Declarations.{Declared, declaration_from, declaration}
-use Rattle.app_tree.specs.Faults.{is_among, declared_name}
-use Rattle.app_check.specs.declared.table.Sorts.{Sorts}
-use Rattle.app_check.specs.declared.table.Sorts.TheVariants as sorts
+use Rattle.app_tree.specs.Faults.{is_named_among, declared_name}
+use Rattle.app_tree.specs.declared.sorts.Sorts.{Sorts}
+use Rattle.app_tree.specs.declared.sorts.Sorts.TheVariants as sorts
 use Rattle.app_check.specs.declared.table.Declaration.{Declaration}
 use Rattle.app_check.specs.declared.table.Entry.{Entry}
-use Rattle.app_check.specs.Tables.{sorts_of, declared_of, told_of, is_told_before}
-use Rattle.app_check.specs.ByName.{by_name}
-use Rattle.app_check.specs.Indexed.{told_at}
+use Rattle.app_tree.specs.Sorts.{sorts_of}
+use Rattle.app_check.specs.inner.Tables.{declared_of, without_name, is_declared_before}
+use Rattle.app_check.specs.inner.ByName.{by_name, SetsName}
+use Rattle.app_check.specs.inner.Indexed.{declaration_of, declaration_at}
 use Rattle.app_check.proofs.Walked.{left_at}
 
 differ : true ≡ false → ⊥
@@ -59,48 +60,45 @@ comes true true None new x e absent is = is
 comes true false None new x e absent is = is
 comes true false (Some y) new x e absent is = is
 
-abbrev declared_at : ℕ → Entry → Declaration
-declared_at item e = record { item = item; sort = e.sort; parameters = e.parameters }
-
 at_same : {X : Type 0} (m : BTreeMap (Bor (List ℕ)) X) (b : Bool) (name sought : List ℕ) → is_some (by_name m name) ≡ b → bytes_eq sought name ≡ true → is_some (by_name m sought) ≡ b
 at_same m b name sought there same = ap (λ n. is_some (by_name m n)) ((bytes_eq-Decides sought name).0 same) ∙ there
 
-pub noted_not : (m : BTreeMap (Bor (List ℕ)) Declaration) (s : Sorts) (item : ℕ) (e : Entry) → sorts_of s e.sort ≡ false
-    → (name : List ℕ) → by_name m name ≡ option_or (by_name m name) (told_at s item e name)
-noted_not m s item e other name = not_sought (sorts_of s e.sort) (bytes_eq name e.name.now) (by_name m name) (declared_at item e) other
+pub by_name_of_other_sort : (m : BTreeMap (Bor (List ℕ)) Declaration) (s : Sorts) (item : ℕ) (e : Entry) → sorts_of s e.sort ≡ false
+    → (name : List ℕ) → by_name m name ≡ option_or (by_name m name) (declaration_at s item e name)
+by_name_of_other_sort m s item e other name = not_sought (sorts_of s e.sort) (bytes_eq name e.name.now) (by_name m name) (declaration_of item e) other
 
-pub noted_stays : (m : BTreeMap (Bor (List ℕ)) Declaration) (s : Sorts) (item : ℕ) (e : Entry) → is_some (by_name m e.name.now) ≡ true
-    → (name : List ℕ) → by_name m name ≡ option_or (by_name m name) (told_at s item e name)
-noted_stays m s item e there name =
-    stays (sorts_of s e.sort) (bytes_eq name e.name.now) (by_name m name) (declared_at item e) (at_same m true e.name.now name there)
+pub by_name_of_known_name : (m : BTreeMap (Bor (List ℕ)) Declaration) (s : Sorts) (item : ℕ) (e : Entry) → is_some (by_name m e.name.now) ≡ true
+    → (name : List ℕ) → by_name m name ≡ option_or (by_name m name) (declaration_at s item e name)
+by_name_of_known_name m s item e there name =
+    stays (sorts_of s e.sort) (bytes_eq name e.name.now) (by_name m name) (declaration_of item e) (at_same m true e.name.now name there)
 
-pub noted_comes : (m n : BTreeMap (Bor (List ℕ)) Declaration) (s : Sorts) (item : ℕ) (e : Entry) → sorts_of s e.sort ≡ true → is_some (by_name m e.name.now) ≡ false
-    → ((name : List ℕ) → by_name n name ≡ cond (bytes_eq name e.name.now) (Some (record { item = item; sort = e.sort; parameters = e.parameters })) (by_name m name))
-    → (name : List ℕ) → by_name n name ≡ option_or (by_name m name) (told_at s item e name)
-noted_comes m n s item e sought absent put name =
-    comes (sorts_of s e.sort) (bytes_eq name e.name.now) (by_name m name) (by_name n name) (declared_at item e) sought (at_same m false e.name.now name absent) (put name)
+pub by_name_of_new_name : (m n : BTreeMap (Bor (List ℕ)) Declaration) (s : Sorts) (item : ℕ) (e : Entry) → sorts_of s e.sort ≡ true → is_some (by_name m e.name.now) ≡ false
+    → SetsName m n e.name.now (declaration_of item e)
+    → (name : List ℕ) → by_name n name ≡ option_or (by_name m name) (declaration_at s item e name)
+by_name_of_new_name m n s item e sought absent set name =
+    comes (sorts_of s e.sort) (bytes_eq name e.name.now) (by_name m name) (by_name n name) (declaration_of item e) sought (at_same m false e.name.now name absent) (set name)
 
-one_more : (c : Bool) (old rest : Option Declaration) (found : ℕ × Declared) (more : Option (ℕ × Declared)) → rest ≡ told_of more
-    → option_or (option_or old (cond c (told_of (Some found)) None)) rest ≡ option_or old (told_of (cond c (Some found) more))
+one_more : (c : Bool) (old rest : Option Declaration) (found : ℕ × Declared) (more : Option (ℕ × Declared)) → rest ≡ without_name more
+    → option_or (option_or old (cond c (without_name (Some found)) None)) rest ≡ option_or old (without_name (cond c (Some found) more))
 one_more true None rest found more is = refl
 one_more true (Some d) rest found more is = refl
 one_more false None rest found more is = is
 one_more false (Some d) rest found more is = refl
 
 pub first_step : (s : Sorts) (old new : Option Declaration) (name : List ℕ) (entries : List Entry) (i : ℕ) (e : Entry) (total : Option Declaration) → i < length entries → e ≡ get_or entries i e
-    → new ≡ option_or old (told_at s i e name) → option_or old (told_of (declaration_from i (sorts_of s) name (map declared_of (drop i entries)))) ≡ total
-    → option_or new (told_of (declaration_from (i + 1) (sorts_of s) name (map declared_of (drop (i + 1) entries)))) ≡ total
+    → new ≡ option_or old (declaration_at s i e name) → option_or old (without_name (declaration_from i (sorts_of s) name (map declared_of (drop i entries)))) ≡ total
+    → option_or new (without_name (declaration_from (i + 1) (sorts_of s) name (map declared_of (drop (i + 1) entries)))) ≡ total
 first_step s old new name entries i e total within is new_is invariant =
     rw add-one
-    (ap (λ o. option_or o (told_of (declaration_from (suc i) (sorts_of s) name (map declared_of (drop (suc i) entries))))) new_is
-    ∙ one_more (sorts_of s e.sort && bytes_eq name e.name.now) old (told_of (declaration_from (suc i) (sorts_of s) name (map declared_of (drop (suc i) entries)))) (i, declared_of e) (declaration_from (suc i) (sorts_of s) name (map declared_of (drop (suc i) entries))) refl
-    ∙ ap (λ left. option_or old (told_of (declaration_from i (sorts_of s) name (map declared_of left)))) (sym (rw add-one at (left_at entries i e within is)))
+    (ap (λ o. option_or o (without_name (declaration_from (suc i) (sorts_of s) name (map declared_of (drop (suc i) entries))))) new_is
+    ∙ one_more (sorts_of s e.sort && bytes_eq name e.name.now) old (without_name (declaration_from (suc i) (sorts_of s) name (map declared_of (drop (suc i) entries)))) (i, declared_of e) (declaration_from (suc i) (sorts_of s) name (map declared_of (drop (suc i) entries))) refl
+    ∙ ap (λ left. option_or old (without_name (declaration_from i (sorts_of s) name (map declared_of left)))) (sym (rw add-one at (left_at entries i e within is)))
     ∙ invariant)
 
 pub first_end : (s : Sorts) (found total : Option Declaration) (name : List ℕ) (i : ℕ) (entries : List Entry) → drop i entries ≡ []
-    → option_or found (told_of (declaration_from i (sorts_of s) name (map declared_of (drop i entries)))) ≡ total → found ≡ total
+    → option_or found (without_name (declaration_from i (sorts_of s) name (map declared_of (drop i entries)))) ≡ total → found ≡ total
 first_end s found total name i entries at_end invariant =
-    or_none found ∙ ap (λ left. option_or found (told_of (declaration_from i (sorts_of s) name (map declared_of left)))) (sym at_end) ∙ invariant
+    or_none found ∙ ap (λ left. option_or found (without_name (declaration_from i (sorts_of s) name (map declared_of left)))) (sym at_end) ∙ invariant
 
 -- ---- a name among the first ones
 
@@ -110,45 +108,45 @@ not_below n m small = grind (arith, nat_tests)
 below : (n m : ℕ) → n < m → nat_lt n m ≡ true
 below n m small = grind (arith, nat_tests)
 
-none_before : (m n : ℕ) (name : List ℕ) (ds : List Declared) → m ≤ n → is_told_before m (told_of (declaration_from n (sorts_of sorts.Any) name ds)) ≡ false
+none_before : (m n : ℕ) (name : List ℕ) (ds : List Declared) → m ≤ n → is_declared_before m (without_name (declaration_from n (sorts_of sorts.Any) name ds)) ≡ false
 none_before m n name [] small = refl
 none_before m n name (d ∷ ds) small = decide (bytes_eq name d.name) (none_before m (suc n) name ds (omega arith))
   where
-    decide : (b : Bool) → is_told_before m (told_of (declaration_from (suc n) (sorts_of sorts.Any) name ds)) ≡ false → is_told_before m (told_of (cond b (Some (n, d)) (declaration_from (suc n) (sorts_of sorts.Any) name ds))) ≡ false
+    decide : (b : Bool) → is_declared_before m (without_name (declaration_from (suc n) (sorts_of sorts.Any) name ds)) ≡ false → is_declared_before m (without_name (cond b (Some (n, d)) (declaration_from (suc n) (sorts_of sorts.Any) name ds))) ≡ false
     decide true rest = not_below n m small
     decide false rest = rest
 
-told_before_from : (n count : ℕ) (name : List ℕ) (ds : List Declared) → is_told_before (n + count) (told_of (declaration_from n (sorts_of sorts.Any) name ds)) ≡ is_among name (map declared_name (take count ds))
-told_before_from n zero name ds = none_before (n + zero) n name ds (omega arith)
-told_before_from n (suc count) name [] = refl
-told_before_from n (suc count) name (d ∷ ds) =
+is_declared_before_from : (n count : ℕ) (name : List ℕ) (ds : List Declared) → is_declared_before (n + count) (without_name (declaration_from n (sorts_of sorts.Any) name ds)) ≡ is_named_among name (map declared_name (take count ds))
+is_declared_before_from n zero name ds = none_before (n + zero) n name ds (omega arith)
+is_declared_before_from n (suc count) name [] = refl
+is_declared_before_from n (suc count) name (d ∷ ds) =
     let same : n + suc count ≡ suc n + count = omega arith in
-    decide (bytes_eq name d.name) (ap (λ k. is_told_before k (told_of (declaration_from (suc n) (sorts_of sorts.Any) name ds))) same ∙ told_before_from (suc n) count name ds)
+    decide (bytes_eq name d.name) (ap (λ k. is_declared_before k (without_name (declaration_from (suc n) (sorts_of sorts.Any) name ds))) same ∙ is_declared_before_from (suc n) count name ds)
   where
-    decide : (b : Bool) → is_told_before (n + suc count) (told_of (declaration_from (suc n) (sorts_of sorts.Any) name ds)) ≡ is_among name (map declared_name (take count ds))
-        → is_told_before (n + suc count) (told_of (cond b (Some (n, d)) (declaration_from (suc n) (sorts_of sorts.Any) name ds))) ≡ (b || is_among name (map declared_name (take count ds)))
+    decide : (b : Bool) → is_declared_before (n + suc count) (without_name (declaration_from (suc n) (sorts_of sorts.Any) name ds)) ≡ is_named_among name (map declared_name (take count ds))
+        → is_declared_before (n + suc count) (without_name (cond b (Some (n, d)) (declaration_from (suc n) (sorts_of sorts.Any) name ds))) ≡ (b || is_named_among name (map declared_name (take count ds)))
     decide true rest = below n (n + suc count) (omega arith)
     decide false rest = rest
 
-pub told_before : (count : ℕ) (name : List ℕ) (ds : List Declared) → is_told_before count (told_of (declaration (sorts_of sorts.Any) name ds)) ≡ is_among name (map declared_name (take count ds))
-told_before count name ds =
+pub is_declared_before_count : (count : ℕ) (name : List ℕ) (ds : List Declared) → is_declared_before count (without_name (declaration (sorts_of sorts.Any) name ds)) ≡ is_named_among name (map declared_name (take count ds))
+is_declared_before_count count name ds =
     let same : count ≡ 0 + count = omega arith in
-    ap (λ k. is_told_before k (told_of (declaration (sorts_of sorts.Any) name ds))) same ∙ told_before_from 0 count name ds
+    ap (λ k. is_declared_before k (without_name (declaration (sorts_of sorts.Any) name ds))) same ∙ is_declared_before_from 0 count name ds
 
--- ---- a place that is told
+-- ---- the place of a declaration that is found
 
-within_from : (n : ℕ) (sought : Sort → Bool) (name : List ℕ) (ds : List Declared) → IfSome (told_of (declaration_from n sought name ds)) (λ found. found.item < n + length ds)
+within_from : (n : ℕ) (sought : Sort → Bool) (name : List ℕ) (ds : List Declared) → IfSome (without_name (declaration_from n sought name ds)) (λ found. found.item < n + length ds)
 within_from n sought name [] = tt
 within_from n sought name (d ∷ ds) = decide (sought d.sort && bytes_eq name d.name) (within_from (suc n) sought name ds)
   where
-    decide : (b : Bool) → IfSome (told_of (declaration_from (suc n) sought name ds)) (λ found. found.item < suc n + length ds) → IfSome (told_of (cond b (Some (n, d)) (declaration_from (suc n) sought name ds))) (λ found. found.item < n + suc (length ds))
+    decide : (b : Bool) → IfSome (without_name (declaration_from (suc n) sought name ds)) (λ found. found.item < suc n + length ds) → IfSome (without_name (cond b (Some (n, d)) (declaration_from (suc n) sought name ds))) (λ found. found.item < n + suc (length ds))
     decide true rest = omega arith
     decide false rest =
         let same : suc n + length ds ≡ n + suc (length ds) = omega arith in
-        subst (λ (k : ℕ). IfSome (told_of (declaration_from (suc n) sought name ds)) (λ found. found.item < k)) same rest
+        subst (λ (k : ℕ). IfSome (without_name (declaration_from (suc n) sought name ds)) (λ found. found.item < k)) same rest
 
-pub told_within : (told : Option Declaration) (sought : Sort → Bool) (name : List ℕ) (ds : List Declared) → told ≡ told_of (declaration sought name ds) → IfSome told (λ found. found.item < length ds)
-told_within told sought name ds is =
+pub place_within : (declared : Option Declaration) (sought : Sort → Bool) (name : List ℕ) (ds : List Declared) → declared ≡ without_name (declaration sought name ds) → IfSome declared (λ found. found.item < length ds)
+place_within declared sought name ds is =
     let same : 0 + length ds ≡ length ds = omega arith in
     subst (λ (t : Option Declaration). IfSome t (λ found. found.item < length ds)) (sym is)
-    (subst (λ (k : ℕ). IfSome (told_of (declaration sought name ds)) (λ found. found.item < k)) same (within_from 0 sought name ds))
+    (subst (λ (k : ℕ). IfSome (without_name (declaration sought name ds)) (λ found. found.item < k)) same (within_from 0 sought name ds))

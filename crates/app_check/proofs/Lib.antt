@@ -1,6 +1,6 @@
 pub mod Worked
 pub mod First
-pub mod Told
+pub mod WithoutName
 pub mod Walked
 pub mod Counted
 pub mod Made
@@ -10,3 +10,4 @@ pub mod Keyed
 pub mod Placed
 pub mod ReadNames
 pub mod LoadedNames
+pub mod Sizes

@@ -9,8 +9,8 @@ use Rattle.app_tree.specs.Tree as app
 use Rattle.app_tree.specs.Tree.{Trees, Acts}
 use Rattle.app_tree.specs.View.{tree_of, trees_of_terms, act_of, acts_of_block}
 use Rattle.app_tree.specs.DraftView.{draft_tree_of, draft_trees_of, draft_act_of, draft_acts_of}
-use Rattle.app_check.specs.Resolving.{Resolving, behind_sites, tree_made, trees_made, act_made, acts_made}
-use Rattle.app_check.specs.Joined.{joined, joined_made, joined_acts, joined_acts_made}
+use Rattle.app_check.specs.inner.Resolving.{Resolving, behind_sites, tree_made, trees_made, act_made, acts_made}
+use Rattle.app_check.specs.inner.Joined.{joined, joined_made, joined_acts, joined_acts_made}
 use Rattle.app_check.proofs.Walked.{left_at}
 
 pub behind_more : (r : Resolving) (m n : ℕ) → behind_sites (behind_sites r m) n ≡ behind_sites r (m + n)

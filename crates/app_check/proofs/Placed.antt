@@ -7,8 +7,8 @@ use Rattle.app_tree.specs.declared.draft_term.Name.{Name}
 use Rattle.app_tree.specs.declared.refusal.Refusal.{Refusal}
 use Rattle.app_tree.specs.declared.refusal.Fault.TheVariants as fault
 use Rattle.app_tree.specs.Resolve.{text_of_name, innermost_from, innermost}
-use Rattle.app_tree.specs.Faults.{is_among, is_none, name_refused, where_fails, repeated_names}
-use Rattle.app_check.specs.Bound.{StandFirst, kept_parameters}
+use Rattle.app_tree.specs.Faults.{is_named_among, is_none, name_refused, where_fails, repeated_names}
+use Rattle.app_check.specs.inner.Bound.{StandFirst, kept_parameters}
 use Rattle.app_check.proofs.First.{unbound}
 use Rattle.app_check.proofs.Walked.{left_at}
 
@@ -50,8 +50,8 @@ found_or_not None false e = refl
 found_or_not (Some n) true e = refl
 found_or_not (Some n) false e = cc
 
-pub is_bound : (name : List ℕ) (scope : List (List ℕ)) → is_some (innermost name scope) ≡ is_among name scope
-is_bound name scope = found_or_not (innermost name scope) (is_among name scope) (unbound name scope)
+pub is_bound : (name : List ℕ) (scope : List (List ℕ)) → is_some (innermost name scope) ≡ is_named_among name scope
+is_bound name scope = found_or_not (innermost name scope) (is_named_among name scope) (unbound name scope)
 
 pub repeated_step : (names : List Name) (i : ℕ) (name : Name) (old new : List Refusal) (had : Bool) (place : Option ℕ) (total : List Refusal) → i < length names → name ≡ get_or names i name
     → place ≡ innermost name.text (map text_of_name (take i names)) → had ≡ is_some place → new ≡ old ++ where_fails had (name_refused fault.NameTwice name)
@@ -61,11 +61,11 @@ repeated_step names i name old new had place total within is place_is had_is new
     let before = map text_of_name (take i names) in
     let rest = drop (i + 1) names in
     let refusal = name_refused fault.NameTwice name in
-    let among : had ≡ is_among name.text before = had_is ∙ ap is_some place_is ∙ is_bound name.text before in
+    let among : had ≡ is_named_among name.text before = had_is ∙ ap is_some place_is ∙ is_bound name.text before in
     ap (λ rs. rs ++ repeated_names (map text_of_name (take (i + 1) names)) rest) new_is
     ∙ append_assoc old (where_fails had refusal) (repeated_names (map text_of_name (take (i + 1) names)) rest)
     ∙ ap (λ b. old ++ (where_fails b refusal ++ repeated_names (map text_of_name (take (i + 1) names)) rest)) among
-    ∙ ap (λ seen. old ++ (where_fails (is_among name.text before) refusal ++ repeated_names seen rest)) (one_behind text_of_name names i name within is)
+    ∙ ap (λ seen. old ++ (where_fails (is_named_among name.text before) refusal ++ repeated_names seen rest)) (one_behind text_of_name names i name within is)
     ∙ ap (λ left. old ++ repeated_names before left) (sym (left_at names i name within is))
     ∙ invariant
 

@@ -3,7 +3,6 @@ use Rattle.std.proofs.Common.{◌≡◌, ℕ, suc, ◌+◌, ◌<◌, List, ◌�
 use Rattle.app_tree.specs.declared.refusal.Refusal.{Refusal}
 use Rattle.app_tree.specs.declared.draft_term.DraftTerm.{DraftTerm}
 use Rattle.app_tree.specs.declared.draft_term.Name.{Name}
-use Rattle.app_tree.specs.declared.term.Operator.{Operator}
 use Rattle.app_tree.specs.DraftTree as draft
 use Rattle.app_tree.specs.DraftTree.{DraftTree, DraftAct}
 use Rattle.app_tree.specs.declared.draft_item.DraftStatement.{DraftStatement}
@@ -35,20 +34,6 @@ terms_step best new spot ts i t total within is new_is invariant =
 
 walked_part : (spot : Spot) (best first : Option Refusal) (part got : DraftTerm) → got ≡ part → first ≡ first_with best (term_faults spot (draft_tree_of got)) → first ≡ first_with best (term_faults spot (draft_tree_of part))
 walked_part spot best first part got same is = is ∙ ap (λ t. first_with best (term_faults spot (draft_tree_of t))) same
-
-pub walked_two : (spot : Spot) (best one two : Option Refusal) (whole : DraftTree) (op : Operator) (a b x y : DraftTerm) → whole ≡ draft.binary op (draft_tree_of a) (draft_tree_of b)
-    → x ≡ a → one ≡ first_with best (term_faults spot (draft_tree_of x)) → y ≡ b → two ≡ first_with one (term_faults spot (draft_tree_of y)) → two ≡ first_with best (term_faults spot whole)
-walked_two spot best one two whole op a b x y is xa e1 yb e2 =
-    then_with best one two (term_faults spot (draft_tree_of a)) (term_faults spot (draft_tree_of b)) (walked_part spot best one a x xa e1) (walked_part spot one two b y yb e2)
-    ∙ ap (λ t. first_with best (term_faults spot t)) (sym is)
-
-pub walked_three : (spot : Spot) (best one two three : Option Refusal) (whole : DraftTree) (a b c x y z : DraftTerm) → whole ≡ draft.choice (draft_tree_of a) (draft_tree_of b) (draft_tree_of c)
-    → x ≡ a → one ≡ first_with best (term_faults spot (draft_tree_of x)) → y ≡ b → two ≡ first_with one (term_faults spot (draft_tree_of y)) → z ≡ c → three ≡ first_with two (term_faults spot (draft_tree_of z))
-    → three ≡ first_with best (term_faults spot whole)
-walked_three spot best one two three whole a b c x y z is xa e1 yb e2 zc e3 =
-    then_with best one three (term_faults spot (draft_tree_of a)) (term_faults spot (draft_tree_of b) ++ term_faults spot (draft_tree_of c)) (walked_part spot best one a x xa e1)
-    (then_with one two three (term_faults spot (draft_tree_of b)) (term_faults spot (draft_tree_of c)) (walked_part spot one two b y yb e2) (walked_part spot two three c z zc e3))
-    ∙ ap (λ t. first_with best (term_faults spot t)) (sym is)
 
 pub walked_fold : (spot : Spot) (best own one two three : Option Refusal) (whole : DraftTree) (place : ℕ) (a b c x y z : DraftTerm) (accumulator element : Name)
     → whole ≡ draft.fold place (draft_tree_of a) (draft_tree_of b) accumulator element (draft_tree_of c)

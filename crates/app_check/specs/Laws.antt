@@ -1,5 +1,5 @@
 -- What the first of several refusals is.
-use Rattle.std.specs.Prelude.{◌≡◌, ◌↔◌, false, ◌⊎◌, List, [], ◌∷◌, Ok, Err}
+use Rattle.std.specs.Prelude.{◌≡◌, ⊤, ◌↔◌, false, ◌⊎◌, List, [], ◌∷◌, Ok, Err}
 use Rattle.app_tree.specs.declared.refusal.Refusal.{Refusal}
 use Rattle.app_tree.specs.DraftTree.{DraftShape}
 use Rattle.app_tree.specs.Resolve.{resolved}
@@ -12,7 +12,7 @@ IsOne r (s ∷ more) = (r ≡ s) ⊎ IsOne r more
 
 -- none of these precedes the refusal
 abbrev pub NonePrecedes : List Refusal → Refusal → Type 0
-NonePrecedes [] r = Unit {0}
+NonePrecedes [] r = ⊤
 NonePrecedes (s ∷ more) r = (precedes s r ≡ false) × NonePrecedes more r
 
 -- it is one of them, and none of them precedes it

@@ -1,12 +1,6 @@
 pub mod Text
 pub mod Words
 pub mod Load
-pub mod Tables
-pub mod ByName
-pub mod Indexed
-pub mod Bound
-pub mod Spots
-pub mod Resolving
-pub mod Joined
 pub mod Laws
 pub mod Example
+pub mod inner

@@ -1,5 +1,5 @@
 -- The app that a file's bytes stand for, or why they stand for none.
-use Rattle.std.specs.Prelude.{◌≡◌, ℕ, Bool, true, false, List, length, Result, Ok, Err, nat_lt}
+use Rattle.std.specs.Prelude.{ℕ, Bool, true, false, List, length, Option, Some, None, Result, Ok, Err, nat_le}
 use Rattle.app_tokens.specs.declared.error.TokenError.{TokenError}
 use Rattle.app_tokens.specs.declared.error.TokenError.TheVariants as token
 use Rattle.app_tokens.specs.Tokens.{Tokens}
@@ -13,6 +13,7 @@ use Rattle.app_tree.specs.Faults.{checked}
 use Rattle.app_reader.specs.declared.error.ReadError.{ReadError}
 use Rattle.app_reader.specs.declared.error.ReadError.TheVariants as read
 use Rattle.app_reader.specs.Items.{read_at}
+use Rattle.app_check.specs.declared.limits.TheConstants.{FILE_LIMIT}
 use Rattle.app_check.specs.declared.error.LoadError.{LoadError}
 use Rattle.app_check.specs.declared.error.LoadError.TheVariants as error
 
@@ -64,9 +65,9 @@ abbrev pub within_limit : Bool → List ℕ → Result Shape LoadError
 within_limit true bytes = app_of_tokens (tokens_of bytes)
 within_limit false bytes = Err error.TooLong
 
--- the most bytes that a file may have
+-- it has no more bytes than a file may have
 abbrev pub is_short : List ℕ → Bool
-is_short bytes = nat_lt (length bytes) 262145
+is_short bytes = nat_le (length bytes) FILE_LIMIT
 
 -- the app of a file: too long, or else what its tokens, the draft that they are, and the checks give
 abbrev pub loaded : List ℕ → Result Shape LoadError
@@ -74,7 +75,7 @@ loaded bytes = within_limit (is_short bytes) bytes
 
 -- ---- what a function of the code says of it
 
--- the error is the refusal, unless it is want of memory
-abbrev pub Refuses : LoadError → Result Shape LoadError → Type 0
-Refuses error.Memory said = Unit {0}
-Refuses e said = said ≡ Err e
+-- what an error refuses; want of memory refuses nothing
+abbrev pub refusal : LoadError → Option LoadError
+refusal error.Memory = None
+refusal e = Some e

@@ -1,6 +1,7 @@
 -- What is written of a refusal: its name, the refused name where there is one, and the place.
 use Rattle.std.specs.Prelude.{ℕ, List, ◌++◌, codes}
 use Rattle.std.specs.Fmt.{decimal}
+use Rattle.app_check.specs.declared.limits.TheConstants.{FILE_LIMIT}
 use Rattle.app_check.specs.declared.error.LoadError.{LoadError}
 use Rattle.app_check.specs.declared.error.LoadError.TheVariants as error
 
@@ -11,7 +12,7 @@ abbrev pub named_at_place : List ℕ → List ℕ → ℕ → List ℕ
 named_at_place refusal name place = refusal ++ codes " " ++ name ++ codes " at " ++ decimal place
 
 abbrev pub refusal_text : LoadError → List ℕ
-refusal_text error.TooLong = codes "TooLong at 262144"
+refusal_text error.TooLong = at_place (codes "TooLong") FILE_LIMIT
 refusal_text (error.BadByte place) = at_place (codes "BadByte") place
 refusal_text (error.OpenText place) = at_place (codes "OpenText") place
 refusal_text (error.Unexpected place) = at_place (codes "Unexpected") place

@@ -2,6 +2,7 @@ ghost use Rattle.std.specs.Prelude.{◌≡◌, Some, IfOk};
 ghost use Rattle.app_check.specs.declared.error.LoadError.TheVariants.{Memory as memory};
 ghost use Rattle.app_check.specs.Text.{refusal_text};
 
+use crate::limits::FILE_LIMIT;
 use rx_value::{Memory, RxText};
 use std::alloc::{AllocError, AllocFailed, Global};
 use std::error::Error;
@@ -11,7 +12,7 @@ use std::fmt;
 /// its length. A text is the name that is refused.
 #[derive(Debug, Drop)]
 pub enum LoadError {
-    /// The file has more than 262,144 bytes.
+    /// The file has more than [`FILE_LIMIT`] bytes.
     TooLong,
     /// A byte that no token can have there, or a number or a text that is beyond its limit, or a pair in a
     /// text that stands for nothing.
@@ -40,7 +41,7 @@ pub enum LoadError {
     WriteInExpr(usize),
     /// A fold in the last part of a fold that stands in the last part of a fold; the place is that word.
     FoldTooDeep(usize),
-    /// A 501st item; the place is its first word.
+    /// An item behind the first [`app_tree::ITEM_LIMIT`]; the place is its first word.
     TooManyItems(usize),
     /// Want of memory, which says nothing of the file.
     Memory,
@@ -51,7 +52,7 @@ impl fmt::Display for LoadError {
 
     fn fmt<W: fmt::Write>(&self, f: &mut fmt::Formatter<W>) -> fmt::Result {
         match self {
-            LoadError::TooLong => write!(f, "TooLong at 262144"),
+            LoadError::TooLong => write!(f, "TooLong at {FILE_LIMIT}"),
             LoadError::BadByte(place) => write!(f, "BadByte at {place}"),
             LoadError::OpenText(place) => write!(f, "OpenText at {place}"),
             LoadError::Unexpected(place) => write!(f, "Unexpected at {place}"),

@@ -1,7 +1,7 @@
 //! The first of the checks that fail.
 
 ghost use Rattle.std.specs.Prelude.{◌≡◌, IfOk};
-ghost use Rattle.app_tree.specs.Faults.{refused, name_refused, where_fails, rank_of, precedes, earlier, first_with};
+ghost use Rattle.app_tree.specs.Faults.{refused, name_refused, where_fails, fault_order, precedes, earlier, first_with};
 ghost use Rattle.app_check.specs.Load.{of_refusal};
 
 use crate::error::LoadError;
@@ -10,7 +10,8 @@ use rx_value::{Memory, RxText};
 use std::alloc::Global;
 use std::marker::Model;
 
-/// A check that fails. It borrows the name that is refused, so that none is copied while a better refusal may come.
+/// A check that fails. It borrows the name that is refused, so that none is copied while a better
+/// refusal may come.
 #[derive(Drop)]
 pub struct Found<'a> {
     place: usize,
@@ -27,8 +28,8 @@ impl<'a> Model for Found<'a> {
 }
 
 /// The place of a fault among those of one place.
-fn rank_of(fault: Fault) -> u32
-    ensures { result ≡ rank_of fault }
+fn fault_order(fault: Fault) -> u32
+    ensures { result ≡ fault_order fault }
 {
     match fault {
         Fault::TooManyItems => 0,
@@ -70,7 +71,7 @@ impl<'a> Found<'a> {
         ensures { result ≡ precedes self.now other.now }
     {
         self.place < other.place
-            || self.place == other.place && rank_of(self.fault) < rank_of(other.fault)
+            || self.place == other.place && fault_order(self.fault) < fault_order(other.fault)
     }
 
     /// The error that a file is refused with.

@@ -1,11 +1,12 @@
 //! The first declarations of names, looked up by maps.
 
-ghost use Rattle.std.specs.Prelude.{◌≡◌, ℕ, List, IfOk, OnOk, Some, bytes_eq, if◌then◌else◌};
+ghost use Rattle.std.specs.Prelude.{◌≡◌, ℕ, List, IfOk, OnOk};
 ghost use Rattle.std.specs.Option.{option_or};
-ghost use Rattle.app_check.specs.ByName.{by_name};
-ghost use Rattle.app_check.specs.Indexed.{first_of, told_at, HasFirst, IsIndex};
+ghost use Rattle.app_check.specs.inner.ByName.{by_name, SetsName};
+ghost use Rattle.app_check.specs.inner.Indexed.{first_of, declaration_of, declaration_at, HasFirst, IsIndex};
 
-use crate::table::{Declaration, Entry, Sorts};
+use crate::table::{Declaration, Entry};
+use app_tree::Sorts;
 use rx_value::Memory;
 use std::alloc::Global;
 use std::collections::BTreeMap;
@@ -26,7 +27,8 @@ pub struct Index<'a> {
 }
 
 fn put<'a>(first: &mut First<'a>, item: usize, entry: &Entry<'a>) -> Result<(), Memory>
-    ensures { OnOk result ((name : List ℕ) → by_name first.new name ≡ (if bytes_eq name entry.now.name.now then Some (record { item = item; sort = entry.now.sort; parameters = entry.now.parameters }) else by_name first.old name)) }
+    ensures { OnOk result
+        (SetsName first.old first.new entry.now.name.now (declaration_of item entry.now)) }
 {
     let declaration = Declaration {
         item,
@@ -40,14 +42,15 @@ fn put<'a>(first: &mut First<'a>, item: usize, entry: &Entry<'a>) -> Result<(), 
 }
 
 /// Keeps what the entry at this place declares, if it is sought and the first of its name.
-#[tactic(auto, using(crate::proofs::Keyed::noted_not, crate::proofs::Keyed::noted_stays, crate::proofs::Keyed::noted_comes))]
+#[tactic(auto, using(crate::proofs::Keyed::by_name_of_other_sort, crate::proofs::Keyed::by_name_of_known_name, crate::proofs::Keyed::by_name_of_new_name))]
 fn note<'a>(
     first: &mut First<'a>,
     sought: Sorts,
     item: usize,
     entry: &Entry<'a>,
 ) -> Result<(), Memory>
-    ensures { OnOk result ((name : List ℕ) → by_name first.new name ≡ option_or (by_name first.old name) (told_at sought item entry.now name)) }
+    ensures { OnOk result ((name : List ℕ) → by_name first.new name
+        ≡ option_or (by_name first.old name) (declaration_at sought item entry.now name)) }
 {
     if !sought.contain(entry.sort) {
         return Ok(());

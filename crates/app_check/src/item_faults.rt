@@ -1,12 +1,12 @@
 //! The checks of items, and the first one of a draft that fails.
 
-ghost use Rattle.std.specs.Prelude.{◌≡◌, [], ◌≤◌, None, IfOk, length, map, take};
+ghost use Rattle.std.specs.Prelude.{◌≡◌, suc, ◌++◌, [], ◌≤◌, None, IfOk, length, map, take};
 ghost use Rattle.app_tree.specs.Declarations.{declarations};
 ghost use Rattle.app_tree.specs.Resolve.{text_of_name};
-ghost use Rattle.app_tree.specs.DraftTree.{task as written_task};
-ghost use Rattle.app_tree.specs.DraftView.{draft_tree_of, written_output, written_form, written_item};
-ghost use Rattle.app_tree.specs.Faults.{first_with, repeated_names, in_task, spot_in, output_faults, form_faults, second_item, item_too_many, item_faults, items_faults};
-ghost use Rattle.app_check.specs.Spots.{holder_of, spot_of};
+ghost use Rattle.app_tree.specs.DraftTree.{task as written_task, reactive as written_reactive};
+ghost use Rattle.app_tree.specs.DraftView.{draft_tree_of, draft_trees_of, draft_acts_of, written_body, written_output, written_form, written_item};
+ghost use Rattle.app_tree.specs.Faults.{first_with, repeated_names, in_task, in_expression, elsewhere, spot_in, term_faults, body_faults, acts_faults, output_faults, form_faults, second_item, item_too_many, item_faults, items_faults};
+ghost use Rattle.app_check.specs.inner.Spots.{holder_of, spot_of};
 
 use crate::found::{Found, where_fails};
 use crate::parameters::Parameters;
@@ -14,12 +14,12 @@ use crate::spot::{Holder, Scope, Spot};
 use crate::statement_faults::{block, body};
 use crate::table::Table;
 use crate::term_faults::{term, terms};
-use app_tree::{DraftForm, DraftItem, DraftOutput, DraftTerm, Fault, Name};
+use app_tree::{
+    DraftBody, DraftForm, DraftItem, DraftOutput, DraftStatement, DraftTerm, Fault, ITEM_LIMIT,
+    Name,
+};
 use rx_value::Memory;
 use std::alloc::Global;
-
-/// The most items that an app may have.
-const ITEM_LIMIT: usize = 500;
 
 /// Where the whole terms of an item stand in which no variable is bound.
 fn whole<'s, 'a>(table: &'s Table<'a>, item: usize, holder: Holder) -> Spot<'s, 'a>
@@ -71,7 +71,8 @@ fn task<'a>(
     body: &'a DraftTerm,
     best: Option<Found<'a>>,
 ) -> Result<Option<Found<'a>>, Memory>
-    ensures { IfOk result (λ found. found ≡ first_with best.entry (form_faults table.now item (written_task parameters.now (draft_tree_of body.now)))) }
+    ensures { IfOk result (λ found. found ≡ first_with best.entry
+        (form_faults table.now item (written_task parameters.now (draft_tree_of body.now)))) }
 {
     match Parameters::new(alloc, parameters) {
         Ok(parameters) => {
@@ -89,15 +90,69 @@ fn output<'a>(
     written: &'a DraftOutput,
     best: Option<Found<'a>>,
 ) -> Option<Found<'a>>
-    ensures { result ≡ first_with best.entry (output_faults table.now item (written_output written.now)) }
+    ensures { result ≡ first_with best.entry
+        (output_faults table.now item (written_output written.now)) }
 {
     let spot = whole(table, item, Holder::Other);
     let best = terms(&spot, written.keys.as_slice(), best);
     body(&spot, &written.body, best)
 }
 
-/// The first of what was found before and of the checks that fail behind an item's name.
+/// The first of what was found before and of the checks of a `reactive` that fail.
 #[tactic(auto, using(crate::proofs::First::first_with_append))]
+fn reactive<'a>(
+    table: &Table<'a>,
+    item: usize,
+    keys: &'a [DraftTerm],
+    written: &'a DraftBody,
+    best: Option<Found<'a>>,
+) -> Option<Found<'a>>
+    ensures { result ≡ first_with best.entry
+        (form_faults table.now item
+        (written_reactive (draft_trees_of keys.now) (written_body written.now))) }
+{
+    let spot = whole(table, item, Holder::Expression);
+    let best = terms(&spot, keys, best);
+    body(&spot, written, best)
+}
+
+/// The first of what was found before and of the checks of an `event` that fail.
+#[tactic(auto, using(crate::proofs::First::first_with_append))]
+fn event<'a>(
+    table: &Table<'a>,
+    item: usize,
+    event: &'a DraftTerm,
+    written: &'a DraftBody,
+    best: Option<Found<'a>>,
+) -> Option<Found<'a>>
+    ensures { result ≡ first_with best.entry
+        (term_faults (spot_in table.now item in_expression []) (draft_tree_of event.now)
+        ++ body_faults (spot_in table.now item in_expression []) (written_body written.now)) }
+{
+    let spot = whole(table, item, Holder::Expression);
+    let best = term(&spot, event, best);
+    body(&spot, written, best)
+}
+
+/// The first of what was found before and of the checks of an `on` that fail.
+#[tactic(auto, using(crate::proofs::First::first_with_append))]
+fn on<'a>(
+    table: &Table<'a>,
+    item: usize,
+    event: &'a DraftTerm,
+    written: &'a [DraftStatement],
+    best: Option<Found<'a>>,
+) -> Option<Found<'a>>
+    ensures { result ≡ first_with best.entry
+        (term_faults (spot_in table.now item elsewhere []) (draft_tree_of event.now)
+        ++ acts_faults (spot_in table.now item elsewhere []) (draft_acts_of written.now)) }
+{
+    let spot = whole(table, item, Holder::Other);
+    let best = term(&spot, event, best);
+    block(&spot, written, best)
+}
+
+/// The first of what was found before and of the checks that fail behind an item's name.
 fn form<'a>(
     alloc: Global,
     table: &Table<'a>,
@@ -105,43 +160,29 @@ fn form<'a>(
     written: &'a DraftForm,
     best: Option<Found<'a>>,
 ) -> Result<Option<Found<'a>>, Memory>
-    ensures { IfOk result (λ found. found ≡ first_with best.entry (form_faults table.now item (written_form written.now))) }
+    ensures { IfOk result (λ found. found ≡ first_with best.entry
+        (form_faults table.now item (written_form written.now))) }
 {
     match written {
         DraftForm::Input(_) | DraftForm::Value(_) => Ok(best),
-        DraftForm::Task {
-            parameters,
-            body: inner,
-        } => task(alloc, table, item, parameters.as_slice(), inner, best),
-        DraftForm::Reactive { keys, body: inner } => {
-            let spot = whole(table, item, Holder::Expression);
-            let best = terms(&spot, keys.as_slice(), best);
-            Ok(body(&spot, inner, best))
+        DraftForm::Task { parameters, body } => {
+            task(alloc, table, item, parameters.as_slice(), body, best)
+        }
+        DraftForm::Reactive { keys, body } => {
+            Ok(reactive(table, item, keys.as_slice(), body, best))
         }
         DraftForm::Event {
-            event,
-            body: inner,
+            event: term,
+            body,
             ..
-        } => {
-            let spot = whole(table, item, Holder::Expression);
-            let best = term(&spot, event, best);
-            Ok(body(&spot, inner, best))
-        }
+        } => Ok(event(table, item, term, body, best)),
         DraftForm::Text(shown) => Ok(output(table, item, shown, best)),
         DraftForm::Plot(shown) => Ok(output(table, item, shown, best)),
         DraftForm::Observe { block: inner, .. } => {
             let spot = whole(table, item, Holder::Other);
             Ok(block(&spot, inner.as_slice(), best))
         }
-        DraftForm::On {
-            event,
-            block: inner,
-            ..
-        } => {
-            let spot = whole(table, item, Holder::Other);
-            let best = term(&spot, event, best);
-            Ok(block(&spot, inner.as_slice(), best))
-        }
+        DraftForm::On { event, block, .. } => Ok(on(table, item, event, block.as_slice(), best)),
     }
 }
 
@@ -153,7 +194,8 @@ fn second_item<'a>(
     best: Option<Found<'a>>,
 ) -> Option<Found<'a>>
     requires { place ≤ length table.now }
-    ensures { result ≡ first_with best.entry (second_item table.now place (written_item written.now)) }
+    ensures { result ≡ first_with best.entry
+        (second_item table.now place (written_item written.now)) }
 {
     let second = table.is_named_before(place, &written.name.text);
     where_fails(best, second, Found::of(Fault::NameTwice, &written.name))
@@ -169,7 +211,8 @@ fn item<'a>(
     best: Option<Found<'a>>,
 ) -> Result<Option<Found<'a>>, Memory>
     requires { place ≤ length table.now }
-    ensures { IfOk result (λ found. found ≡ first_with best.entry (item_faults table.now place (written_item written.now))) }
+    ensures { IfOk result (λ found. found ≡ first_with best.entry
+        (item_faults table.now place (written_item written.now))) }
 {
     let many = Found::at(Fault::TooManyItems, written.place);
     let best = where_fails(best, place == ITEM_LIMIT, many);
@@ -185,7 +228,8 @@ fn items<'a>(
     written: &'a [DraftItem],
 ) -> Result<Option<Found<'a>>, Memory>
     requires { length written.now ≤ length table.now }
-    ensures { IfOk result (λ found. found ≡ first_with None (items_faults table.now 0 (map written_item written.now))) }
+    ensures { IfOk result (λ found. found ≡ first_with None
+        (items_faults table.now 0 (map written_item written.now))) }
 {
     let mut best = None;
     for (place, inner) in written.iter().enumerate() {
@@ -199,7 +243,7 @@ fn items<'a>(
 
 /// Of the items behind the limit the first alone counts, since it is refused itself.
 fn counted(written: &[DraftItem]) -> &[DraftItem]
-    ensures { result.now ≡ take 501 written.now }
+    ensures { result.now ≡ take (suc ITEM_LIMIT) written.now }
 {
     if written.len() <= ITEM_LIMIT {
         written
@@ -215,7 +259,8 @@ pub fn first_found<'a>(
     written: &'a [DraftItem],
 ) -> Result<Option<Found<'a>>, Memory>
     requires { table.now ≡ declarations (map written_item written.now) }
-    ensures { IfOk result (λ found. found ≡ first_with None (items_faults table.now 0 (take 501 (map written_item written.now)))) }
+    ensures { IfOk result (λ found. found ≡ first_with None
+        (items_faults table.now 0 (take (suc ITEM_LIMIT) (map written_item written.now)))) }
 {
     items(alloc, table, counted(written))
 }

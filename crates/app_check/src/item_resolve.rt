@@ -1,29 +1,23 @@
 //! Statements, items and whole apps with numbers in place of names.
 
-ghost use Rattle.std.specs.Prelude.{◌≡◌, ◌≤◌, [], IfOk, length, map};
+ghost use Rattle.std.specs.Prelude.{◌≡◌, [], IfOk, map};
+ghost use Rattle.app_tree.specs.Tree as app;
 ghost use Rattle.app_tree.specs.View.{act_of, acts_of_block, shown_of, node_of};
 ghost use Rattle.app_tree.specs.DraftTree.{task as written_task, reactive as written_reactive, event as written_event, observe as written_observe, on as written_on};
 ghost use Rattle.app_tree.specs.DraftView.{draft_tree_of, draft_trees_of, deed_of, draft_act_of, draft_acts_of, written_body, written_output, written_form, written_item};
 ghost use Rattle.app_tree.specs.Resolve.{text_of_name, resolved_output, resolved_form, resolved_item};
-ghost use Rattle.app_check.specs.Resolving.{Makes, deed_made, act_made, acts_made};
+ghost use Rattle.app_check.specs.inner.Resolving.{deed_made, act_made, acts_made};
 
 use crate::resolver::Resolver;
-use crate::table::{Sorts, Table};
+use crate::table::NumberedTable;
 use crate::term_resolve::{term, terms};
 use app_tree::{
-    Block, DraftAction, DraftBody, DraftForm, DraftItem, DraftOutput, DraftStatement, DraftTerm,
-    Flags, Item, Items as AppItems, Name, Output, Statement,
+    Block, DraftAction, DraftBlock, DraftBody, DraftForm, DraftItem, DraftOutput, DraftStatement,
+    DraftTerm, Flags, Item, Items as AppItems, Name, Output, Sorts, Statement,
 };
-use rx_value::{Memory, RxList, RxText};
+use rx_value::{Memory, RxList, RxText, Value};
 use sqlite_items::Items;
 use std::alloc::Global;
-
-/// The priority and the block of an observer.
-#[derive(Clone, Copy)]
-struct Observer<'a> {
-    priority: i64,
-    block: &'a [DraftStatement],
-}
 
 fn action<'a>(
     alloc: Global,
@@ -31,7 +25,8 @@ fn action<'a>(
     written: &'a DraftAction,
 ) -> Result<Statement, Memory>
     requires { resolver.old.scope ≡ [] }
-    ensures { Makes act_of result resolver.new (deed_made resolver.old (deed_of written.now)) }
+    ensures { IfOk result (λ made. (act_of made, resolver.new)
+        ≡ deed_made resolver.old (deed_of written.now)) }
 {
     match written {
         DraftAction::Set(name, value) => {
@@ -62,7 +57,8 @@ fn statement<'a>(
     written: &'a DraftStatement,
 ) -> Result<Statement, Memory>
     requires { resolver.old.scope ≡ [] }
-    ensures { Makes act_of result resolver.new (act_made resolver.old (draft_act_of written.now)) }
+    ensures { IfOk result (λ made. (act_of made, resolver.new)
+        ≡ act_made resolver.old (draft_act_of written.now)) }
 {
     match written {
         DraftStatement::Write(write) => action(alloc, resolver, &write.action),
@@ -88,7 +84,8 @@ fn block<'a>(
     written: &'a [DraftStatement],
 ) -> Result<Block, Memory>
     requires { resolver.old.scope ≡ [] }
-    ensures { Makes acts_of_block result resolver.new (acts_made resolver.old (draft_acts_of written.now)) }
+    ensures { IfOk result (λ made. (acts_of_block made, resolver.new)
+        ≡ acts_made resolver.old (draft_acts_of written.now)) }
 {
     let mut made = Items::new(alloc);
     'statements: for inner in written {
@@ -107,9 +104,27 @@ fn copies_of(alloc: Global, names: &[Name]) -> Result<RxList<RxText>, Memory>
     Ok(copies)
 }
 
-fn output<'a>(alloc: Global, table: &Table<'a>, written: &'a DraftOutput) -> Result<Output, Memory>
-    requires { length table.now ≤ 500 }
-    ensures { IfOk result (λ made. shown_of made ≡ resolved_output table.now (written_output written.now)) }
+fn input(alloc: Global, name: RxText, start: &Value) -> Result<Item, Memory>
+    ensures { IfOk result (λ made. node_of made ≡ app.input name start.now) }
+{
+    let start = start.copy(alloc)?;
+    Ok(Item::Input { name, start })
+}
+
+fn value(alloc: Global, name: RxText, start: &Value) -> Result<Item, Memory>
+    ensures { IfOk result (λ made. node_of made ≡ app.value name start.now) }
+{
+    let start = start.copy(alloc)?;
+    Ok(Item::Value { name, start })
+}
+
+fn output<'a>(
+    alloc: Global,
+    table: &NumberedTable<'a>,
+    written: &'a DraftOutput,
+) -> Result<Output, Memory>
+    ensures { IfOk result
+        (λ made. shown_of made ≡ resolved_output table.now (written_output written.now)) }
 {
     let mut resolver = Resolver::new(alloc, table);
     let keys = terms(alloc, &mut resolver, written.keys.as_slice())?;
@@ -124,13 +139,13 @@ fn output<'a>(alloc: Global, table: &Table<'a>, written: &'a DraftOutput) -> Res
 
 fn task<'a>(
     alloc: Global,
-    table: &Table<'a>,
+    table: &NumberedTable<'a>,
     name: RxText,
     parameters: &'a [Name],
     body: &'a DraftTerm,
 ) -> Result<Item, Memory>
-    requires { length table.now ≤ 500 }
-    ensures { IfOk result (λ made. node_of made ≡ resolved_form table.now name (written_task parameters.now (draft_tree_of body.now))) }
+    ensures { IfOk result (λ made. node_of made
+        ≡ resolved_form table.now name (written_task parameters.now (draft_tree_of body.now))) }
 {
     let mut resolver = Resolver::with_parameters(alloc, table, parameters)?;
     let body = term(alloc, &mut resolver, body)?;
@@ -144,13 +159,13 @@ fn task<'a>(
 
 fn reactive<'a>(
     alloc: Global,
-    table: &Table<'a>,
+    table: &NumberedTable<'a>,
     name: RxText,
     keys: &'a [DraftTerm],
     body: &'a DraftBody,
 ) -> Result<Item, Memory>
-    requires { length table.now ≤ 500 }
-    ensures { IfOk result (λ made. node_of made ≡ resolved_form table.now name (written_reactive (draft_trees_of keys.now) (written_body body.now))) }
+    ensures { IfOk result (λ made. node_of made ≡ resolved_form table.now name
+        (written_reactive (draft_trees_of keys.now) (written_body body.now))) }
 {
     let mut resolver = Resolver::new(alloc, table);
     let keys = terms(alloc, &mut resolver, keys)?;
@@ -160,14 +175,14 @@ fn reactive<'a>(
 
 fn event<'a>(
     alloc: Global,
-    table: &Table<'a>,
+    table: &NumberedTable<'a>,
     name: RxText,
     flags: Flags,
     event: &'a DraftTerm,
     body: &'a DraftBody,
 ) -> Result<Item, Memory>
-    requires { length table.now ≤ 500 }
-    ensures { IfOk result (λ made. node_of made ≡ resolved_form table.now name (written_event flags (draft_tree_of event.now) (written_body body.now))) }
+    ensures { IfOk result (λ made. node_of made ≡ resolved_form table.now name
+        (written_event flags (draft_tree_of event.now) (written_body body.now))) }
 {
     let mut resolver = Resolver::new(alloc, table);
     let event = term(alloc, &mut resolver, event)?;
@@ -181,15 +196,41 @@ fn event<'a>(
     })
 }
 
+fn text<'a>(
+    alloc: Global,
+    table: &NumberedTable<'a>,
+    name: RxText,
+    written: &'a DraftOutput,
+) -> Result<Item, Memory>
+    ensures { IfOk result (λ made. node_of made
+        ≡ app.text name (resolved_output table.now (written_output written.now))) }
+{
+    let output = output(alloc, table, written)?;
+    Ok(Item::Text { name, output })
+}
+
+fn plot<'a>(
+    alloc: Global,
+    table: &NumberedTable<'a>,
+    name: RxText,
+    written: &'a DraftOutput,
+) -> Result<Item, Memory>
+    ensures { IfOk result (λ made. node_of made
+        ≡ app.plot name (resolved_output table.now (written_output written.now))) }
+{
+    let output = output(alloc, table, written)?;
+    Ok(Item::Plot { name, output })
+}
+
 fn observe<'a>(
     alloc: Global,
-    table: &Table<'a>,
+    table: &NumberedTable<'a>,
     name: RxText,
     priority: i64,
     written: &'a [DraftStatement],
 ) -> Result<Item, Memory>
-    requires { length table.now ≤ 500 }
-    ensures { IfOk result (λ made. node_of made ≡ resolved_form table.now name (written_observe priority (draft_acts_of written.now))) }
+    ensures { IfOk result (λ made. node_of made
+        ≡ resolved_form table.now name (written_observe priority (draft_acts_of written.now))) }
 {
     let mut resolver = Resolver::new(alloc, table);
     let block = block(alloc, &mut resolver, written)?;
@@ -202,31 +243,36 @@ fn observe<'a>(
 
 fn on<'a>(
     alloc: Global,
-    table: &Table<'a>,
+    table: &NumberedTable<'a>,
     name: RxText,
+    priority: i64,
     flags: Flags,
     event: &'a DraftTerm,
-    observer: Observer<'a>,
+    written: &'a DraftBlock,
 ) -> Result<Item, Memory>
-    requires { length table.now ≤ 500 }
-    ensures { IfOk result (λ made. node_of made ≡ resolved_form table.now name (written_on observer.entry.priority flags (draft_tree_of event.now) (draft_acts_of observer.entry.block.now))) }
+    ensures { IfOk result (λ made. node_of made ≡ resolved_form table.now name
+        (written_on priority flags (draft_tree_of event.now) (draft_acts_of written.now))) }
 {
     let mut resolver = Resolver::new(alloc, table);
     let event = term(alloc, &mut resolver, event)?;
     resolver.next_site()?;
-    let block = block(alloc, &mut resolver, observer.block)?;
+    let block = block(alloc, &mut resolver, written.as_slice())?;
     Ok(Item::On {
         name,
-        priority: observer.priority,
+        priority,
         flags,
         event,
         block,
     })
 }
 
-fn item<'a>(alloc: Global, table: &Table<'a>, written: &'a DraftItem) -> Result<Item, Memory>
-    requires { length table.now ≤ 500 }
-    ensures { IfOk result (λ made. node_of made ≡ resolved_item table.now (written_item written.now)) }
+fn item<'a>(
+    alloc: Global,
+    table: &NumberedTable<'a>,
+    written: &'a DraftItem,
+) -> Result<Item, Memory>
+    ensures { IfOk result
+        (λ made. node_of made ≡ resolved_item table.now (written_item written.now)) }
 {
     let name = written.name.text.copy(alloc)?;
     form(alloc, table, name, &written.form)
@@ -234,22 +280,16 @@ fn item<'a>(alloc: Global, table: &Table<'a>, written: &'a DraftItem) -> Result<
 
 fn form<'a>(
     alloc: Global,
-    table: &Table<'a>,
+    table: &NumberedTable<'a>,
     name: RxText,
     written: &'a DraftForm,
 ) -> Result<Item, Memory>
-    requires { length table.now ≤ 500 }
-    ensures { IfOk result (λ made. node_of made ≡ resolved_form table.now name (written_form written.now)) }
+    ensures { IfOk result
+        (λ made. node_of made ≡ resolved_form table.now name (written_form written.now)) }
 {
     match written {
-        DraftForm::Input(start) => {
-            let start = start.copy(alloc)?;
-            Ok(Item::Input { name, start })
-        }
-        DraftForm::Value(start) => {
-            let start = start.copy(alloc)?;
-            Ok(Item::Value { name, start })
-        }
+        DraftForm::Input(start) => input(alloc, name, start),
+        DraftForm::Value(start) => value(alloc, name, start),
         DraftForm::Task { parameters, body } => {
             task(alloc, table, name, parameters.as_slice(), body)
         }
@@ -259,14 +299,8 @@ fn form<'a>(
             event: term,
             body,
         } => event(alloc, table, name, *flags, term, body),
-        DraftForm::Text(shown) => {
-            let output = output(alloc, table, shown)?;
-            Ok(Item::Text { name, output })
-        }
-        DraftForm::Plot(shown) => {
-            let output = output(alloc, table, shown)?;
-            Ok(Item::Plot { name, output })
-        }
+        DraftForm::Text(shown) => text(alloc, table, name, shown),
+        DraftForm::Plot(shown) => plot(alloc, table, name, shown),
         DraftForm::Observe { priority, block } => {
             observe(alloc, table, name, *priority, block.as_slice())
         }
@@ -275,24 +309,18 @@ fn form<'a>(
             flags,
             event,
             block,
-        } => {
-            let observer = Observer {
-                priority: *priority,
-                block: block.as_slice(),
-            };
-            on(alloc, table, name, *flags, event, observer)
-        }
+        } => on(alloc, table, name, *priority, *flags, event, block),
     }
 }
 
 /// The items that are written, with numbers in place of names. The table holds what they declare.
 pub fn items<'a>(
     alloc: Global,
-    table: &Table<'a>,
+    table: &NumberedTable<'a>,
     written: &'a [DraftItem],
 ) -> Result<AppItems, Memory>
-    requires { length table.now ≤ 500 }
-    ensures { IfOk result (λ made. map node_of made ≡ map (resolved_item table.now) (map written_item written.now)) }
+    ensures { IfOk result
+        (λ made. map node_of made ≡ map (resolved_item table.now) (map written_item written.now)) }
 {
     let mut made = RxList::new(alloc);
     for inner in written {

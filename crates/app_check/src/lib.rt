@@ -13,6 +13,7 @@ mod index;
 mod item_faults;
 mod item_resolve;
 mod laws;
+mod limits;
 mod parameters;
 mod resolver;
 mod spot;
@@ -20,10 +21,9 @@ mod statement_faults;
 mod table;
 mod term_faults;
 mod term_resolve;
-#[cfg(test)]
-mod tests;
 
 pub use checking::{check, load};
 pub use error::LoadError;
 pub use examples::{worked_examples, worked_files};
 pub use laws::first_refusal_laws;
+pub use limits::FILE_LIMIT;

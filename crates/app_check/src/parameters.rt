@@ -1,11 +1,11 @@
 //! The parameters of a task.
 
-ghost use Rattle.std.specs.Prelude.{◌≡◌, ℕ, List, [], ◌++◌, ◌<◌, IfOk, OnOk, Some, length, map, is_some, bytes_eq, if◌then◌else◌};
+ghost use Rattle.std.specs.Prelude.{◌≡◌, [], ◌++◌, IfOk, OnOk, length, map, is_some};
 ghost use Rattle.app_tree.specs.declared.refusal.Fault.TheVariants as fault;
 ghost use Rattle.app_tree.specs.Resolve.{text_of_name, innermost};
-ghost use Rattle.app_tree.specs.Faults.{is_among, name_refused, repeated_names, where_fails};
-ghost use Rattle.app_check.specs.ByName.{by_name};
-ghost use Rattle.app_check.specs.Bound.{refused_names, HasPlaces, AreRepeated};
+ghost use Rattle.app_tree.specs.Faults.{is_named_among, name_refused, repeated_names, where_fails};
+ghost use Rattle.app_check.specs.inner.ByName.{by_name, SetsName};
+ghost use Rattle.app_check.specs.inner.Bound.{refused_names, HasPlaces, AreRepeated};
 
 use app_tree::Name;
 use rx_value::{Memory, RxText};
@@ -29,7 +29,7 @@ impl<'a> Model for Parameters<'a> {
     ghost use Rattle.std.specs.Prelude.{List};
     ghost use Rattle.std.specs.Coded.{codes};
     ghost use Rattle.app_tree.specs.declared.draft_term.Name.{Name};
-    ghost use Rattle.app_check.specs.Bound.{HasPlaces, AreRepeated};
+    ghost use Rattle.app_check.specs.inner.Bound.{HasPlaces, AreRepeated};
 
     ghost Value = { List Name };
 
@@ -37,12 +37,13 @@ impl<'a> Model for Parameters<'a> {
 
     ghost view = { λ p. p.names.now };
 
-    ghost invariant = { λ p. HasPlaces p.places p.names.now × AreRepeated p.repeated.items p.names.now };
+    ghost invariant = { λ p.
+        HasPlaces p.places p.names.now × AreRepeated p.repeated.items p.names.now };
 }
 
 /// Gives a name this place, and tells whether it had one.
 fn set_place<'a>(places: &mut Places<'a>, name: &'a RxText, place: usize) -> Result<bool, Memory>
-    ensures set { OnOk result ((sought : List ℕ) → by_name places.new sought ≡ (if bytes_eq sought name.now then Some place else by_name places.old sought)) }
+    ensures set { OnOk result (SetsName places.old places.new name.now place) }
     ensures had { IfOk result (λ had. had ≡ is_some (by_name places.old name.now)) }
 {
     match places.insert(name.as_str(), place) {
@@ -57,7 +58,9 @@ fn keep_if<'a>(
     is_repeated: bool,
     name: &'a Name,
 ) -> Result<(), Memory>
-    ensures { OnOk result (refused_names repeated.new.items ≡ refused_names repeated.old.items ++ where_fails is_repeated (name_refused fault.NameTwice name.now)) }
+    ensures { OnOk result (refused_names repeated.new.items
+        ≡ refused_names repeated.old.items
+        ++ where_fails is_repeated (name_refused fault.NameTwice name.now)) }
 {
     if !is_repeated {
         return Ok(());
@@ -105,7 +108,7 @@ impl Parameters<'_> {
     /// Whether one has this name.
     #[tactic(auto, using(crate::proofs::Placed::is_bound))]
     pub fn contain(&self, name: &RxText) -> bool
-        ensures { result ≡ is_among name.now (map text_of_name self.now) }
+        ensures { result ≡ is_named_among name.now (map text_of_name self.now) }
     {
         self.last(name).is_some()
     }

@@ -2,14 +2,14 @@
 
 ghost use Rattle.std.specs.Prelude.{◌≡◌, ◌≤◌, [], ◌∷◌, ◌++◌, IfOk, OnOk, OnErr, length, map, take};
 ghost use Rattle.app_tree.specs.Resolve.{text_of_name, number_named, resolved_read, innermost_from, innermost, number_or_zero, read_to, named_read};
-ghost use Rattle.app_check.specs.Tables.{sorts_of};
-ghost use Rattle.app_check.specs.Bound.{kept_parameters};
-ghost use Rattle.app_check.specs.Resolving.{Makes, behind_sites, in_fold};
+ghost use Rattle.app_tree.specs.Sorts.{sorts_of};
+ghost use Rattle.app_check.specs.inner.Bound.{kept_parameters};
+ghost use Rattle.app_check.specs.inner.Resolving.{behind_sites, in_fold};
 
 use crate::parameters::Parameters;
-use crate::table::{Sorts, Table};
+use crate::table::NumberedTable;
 use crate::term_faults::sought_by;
-use app_tree::{Name, Read, ReadForm, Sort};
+use app_tree::{Name, Read, ReadForm, Sort, Sorts};
 use rx_value::{Memory, RxText};
 use std::alloc::Global;
 use std::marker::Model;
@@ -17,7 +17,7 @@ use std::marker::Model;
 /// What is known where a part of an item stands.
 #[derive(Drop)]
 pub struct Resolver<'t, 'a> {
-    table: &'t Table<'a>,
+    table: &'t NumberedTable<'a>,
     /// The variables that are bound, from the outside to the inside.
     variables: Vec<&'a RxText>,
     /// Those of a task that stand first among them, as long as all of these are bound.
@@ -27,19 +27,23 @@ pub struct Resolver<'t, 'a> {
 }
 
 impl<'t, 'a> Model for Resolver<'t, 'a> {
-    ghost use Rattle.std.specs.Prelude.{◌≤◌, length, map};
+    ghost use Rattle.std.specs.Prelude.{map};
     ghost use Rattle.std.specs.Coded.{codes};
-    ghost use Rattle.app_check.specs.Resolving.{Resolving};
+    ghost use Rattle.app_check.specs.inner.Resolving.{Resolving};
 
     ghost Value = { Resolving };
 
     ghost coded = { Prim.hlevel (codes) };
 
-    ghost view = { λ r. record { table = r.table.now; scope = map (λ v. v.now) r.variables.items; site = r.site } };
+    ghost view = { λ r. record {
+      table = r.table.now;
+      scope = map (λ v. v.now) r.variables.items;
+      site = r.site;
+    } };
 
-    ghost use Rattle.app_check.specs.Bound.{StandFirst};
+    ghost use Rattle.app_check.specs.inner.Bound.{StandFirst};
 
-    ghost invariant = { λ r. (length r.table.now ≤ 500) × StandFirst r.parameters (map (λ v. v.now) r.variables.items) };
+    ghost invariant = { λ r. StandFirst r.parameters (map (λ v. v.now) r.variables.items) };
 }
 
 fn push<'a>(variables: &mut Vec<&'a RxText>, name: &'a RxText) -> Result<(), Memory>
@@ -70,7 +74,8 @@ fn innermost(
     name: &RxText,
 ) -> Option<usize>
     requires within { count ≤ length variables.now }
-    requires first { among_first ≡ innermost name.now (take count (map (λ v. v.now) variables.now)) }
+    requires first { among_first
+        ≡ innermost name.now (take count (map (λ v. v.now) variables.now)) }
     ensures { result ≡ innermost name.now (map (λ v. v.now) variables.now) }
 {
     let mut found = among_first;
@@ -123,8 +128,7 @@ fn named_read(sort: Sort, number: u32) -> Read
 
 impl<'t, 'a> Resolver<'t, 'a> {
     /// Before an item's text, where no variable is bound and no site was passed.
-    pub fn new(alloc: Global, table: &'t Table<'a>) -> Resolver<'t, 'a>
-        requires { length table.now ≤ 500 }
+    pub fn new(alloc: Global, table: &'t NumberedTable<'a>) -> Resolver<'t, 'a>
         ensures { result ≡ record { table = table.now; scope = []; site = 0 } }
     {
         Resolver {
@@ -138,11 +142,11 @@ impl<'t, 'a> Resolver<'t, 'a> {
     /// The same in a task with these parameters.
     pub fn with_parameters(
         alloc: Global,
-        table: &'t Table<'a>,
+        table: &'t NumberedTable<'a>,
         parameters: &'a [Name],
     ) -> Result<Resolver<'t, 'a>, Memory>
-        requires { length table.now ≤ 500 }
-        ensures { IfOk result (λ r. r ≡ record { table = table.now; scope = map text_of_name parameters.now; site = 0 }) }
+        ensures { IfOk result (λ r. r
+            ≡ record { table = table.now; scope = map text_of_name parameters.now; site = 0 }) }
     {
         let variables = texts_of(alloc, parameters)?;
         let parameters = Some(Parameters::new(alloc, parameters)?);
@@ -156,7 +160,8 @@ impl<'t, 'a> Resolver<'t, 'a> {
 
     /// The number of a site that begins here. More sites than can be counted find no memory either.
     pub fn next_site(&mut self) -> Result<usize, Memory>
-        ensures { Makes (λ n. n) result self.new (self.old.site, behind_sites self.old 1) }
+        ensures site { IfOk result (λ site. site ≡ self.old.site) }
+        ensures next { OnOk result (self.new ≡ behind_sites self.old 1) }
     {
         let site = self.site;
         match site.checked_add(1) {

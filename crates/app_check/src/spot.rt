@@ -2,8 +2,8 @@
 
 ghost use Rattle.std.specs.Prelude.{◌≡◌, suc, [], ◌∷◌, map, nat_le};
 ghost use Rattle.app_tree.specs.Resolve.{text_of_name, inner_scope};
-ghost use Rattle.app_tree.specs.Faults.{is_among, is_in_task, is_in_expression};
-ghost use Rattle.app_check.specs.Spots.{holder_of, variables_of, depth_of};
+ghost use Rattle.app_tree.specs.Faults.{is_named_among, is_in_task, is_in_expression};
+ghost use Rattle.app_check.specs.inner.Spots.{holder_of, variables_of, depth_of};
 
 use crate::parameters::Parameters;
 use crate::table::Table;
@@ -58,7 +58,7 @@ impl Holder {
 }
 
 fn is_either(name: &RxText, first: &Name, second: &Name) -> bool
-    ensures { result ≡ is_among name.now (first.now.text ∷ second.now.text ∷ []) }
+    ensures { result ≡ is_named_among name.now (first.now.text ∷ second.now.text ∷ []) }
 {
     name.same(&first.text) || name.same(&second.text)
 }
@@ -66,7 +66,8 @@ fn is_either(name: &RxText, first: &Name, second: &Name) -> bool
 impl<'s, 'a> Scope<'s, 'a> {
     /// The variables in the last part of a fold that stands here.
     pub fn in_last_part(&'s self, accumulator: &'a Name, element: &'a Name) -> Scope<'s, 'a>
-        ensures variables { variables_of result ≡ inner_scope (variables_of self.now) accumulator.now.text element.now.text }
+        ensures variables { variables_of result
+            ≡ inner_scope (variables_of self.now) accumulator.now.text element.now.text }
         ensures depth { depth_of result ≡ suc (depth_of self.now) }
     {
         Scope::LastPart {
@@ -79,9 +80,9 @@ impl<'s, 'a> Scope<'s, 'a> {
 
 impl Scope<'_, '_> {
     /// Whether a variable of this name is bound.
-    #[tactic(auto, using(crate::proofs::First::is_among_append))]
+    #[tactic(auto, using(crate::proofs::First::is_named_among_append))]
     pub fn binds(&self, name: &RxText) -> bool
-        ensures { result ≡ is_among name.now (variables_of self.now) }
+        ensures { result ≡ is_named_among name.now (variables_of self.now) }
     {
         match self {
             Scope::Empty => false,

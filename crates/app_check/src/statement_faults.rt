@@ -3,18 +3,18 @@
 ghost use Rattle.std.specs.Prelude.{◌≡◌, map};
 ghost use Rattle.app_tree.specs.DraftView.{draft_tree_of, draft_trees_of, deed_of, write_of, draft_act_of, draft_acts_of, written_body};
 ghost use Rattle.app_tree.specs.Faults.{first_with, argument_count_fault, deed_faults, act_faults, acts_faults, write_faults, writes_faults, body_faults};
-ghost use Rattle.app_check.specs.Tables.{is_told_other_count};
-ghost use Rattle.app_check.specs.Spots.{spot_of};
+ghost use Rattle.app_check.specs.inner.Tables.{has_other_count};
+ghost use Rattle.app_check.specs.inner.Spots.{spot_of};
 
 use crate::found::{Found, where_fails};
 use crate::spot::Spot;
-use crate::table::{Declaration, Sorts, Table};
+use crate::table::{Declaration, Table};
 use crate::term_faults::{term, terms, unknown_name};
-use app_tree::{DraftAction, DraftBody, DraftStatement, DraftWrite, Fault, Name};
+use app_tree::{DraftAction, DraftBody, DraftStatement, DraftWrite, Fault, Name, Sorts};
 
 /// Whether the task that was found has another number of parameters.
 fn is_other_count(count: usize, found: Option<Declaration>) -> bool
-    ensures { result ≡ is_told_other_count count found }
+    ensures { result ≡ has_other_count count found }
 {
     match found {
         Some(found) => found.parameters != count,
@@ -23,7 +23,7 @@ fn is_other_count(count: usize, found: Option<Declaration>) -> bool
 }
 
 /// Refuses another number of arguments than the task has.
-#[tactic(auto, using(crate::proofs::Told::told_other_count))]
+#[tactic(auto, using(crate::proofs::WithoutName::has_other_count_without_name))]
 fn argument_count<'a>(
     table: &Table<'_>,
     name: &'a Name,
@@ -43,7 +43,8 @@ fn action<'a>(
     written: &'a DraftAction,
     best: Option<Found<'a>>,
 ) -> Option<Found<'a>>
-    ensures { result ≡ first_with best.entry (deed_faults (spot_of spot.now) (deed_of written.now)) }
+    ensures { result ≡ first_with best.entry
+        (deed_faults (spot_of spot.now) (deed_of written.now)) }
 {
     match written {
         DraftAction::Set(name, value) => {
@@ -70,7 +71,8 @@ fn statement<'a>(
     written: &'a DraftStatement,
     best: Option<Found<'a>>,
 ) -> Option<Found<'a>>
-    ensures { result ≡ first_with best.entry (act_faults (spot_of spot.now) (draft_act_of written.now)) }
+    ensures { result ≡ first_with best.entry
+        (act_faults (spot_of spot.now) (draft_act_of written.now)) }
 {
     match written {
         DraftStatement::Write(write) => action(spot, &write.action, best),
@@ -94,7 +96,8 @@ pub fn block<'a>(
     written: &'a [DraftStatement],
     best: Option<Found<'a>>,
 ) -> Option<Found<'a>>
-    ensures { result ≡ first_with best.entry (acts_faults (spot_of spot.now) (draft_acts_of written.now)) }
+    ensures { result ≡ first_with best.entry
+        (acts_faults (spot_of spot.now) (draft_acts_of written.now)) }
 {
     let mut best = best;
     'statements: for inner in written {
@@ -109,7 +112,8 @@ fn write<'a>(
     written: &'a DraftWrite,
     best: Option<Found<'a>>,
 ) -> Option<Found<'a>>
-    ensures { result ≡ first_with best.entry (write_faults (spot_of spot.now) (write_of written.now)) }
+    ensures { result ≡ first_with best.entry
+        (write_faults (spot_of spot.now) (write_of written.now)) }
 {
     let best = where_fails(best, true, Found::at(Fault::WriteInExpr, written.place));
     action(spot, &written.action, best)
@@ -121,7 +125,8 @@ fn writes<'a>(
     written: &'a [DraftWrite],
     best: Option<Found<'a>>,
 ) -> Option<Found<'a>>
-    ensures { result ≡ first_with best.entry (writes_faults (spot_of spot.now) (map write_of written.now)) }
+    ensures { result ≡ first_with best.entry
+        (writes_faults (spot_of spot.now) (map write_of written.now)) }
 {
     let mut best = best;
     'writes: for inner in written {
@@ -137,7 +142,8 @@ pub fn body<'a>(
     written: &'a DraftBody,
     best: Option<Found<'a>>,
 ) -> Option<Found<'a>>
-    ensures { result ≡ first_with best.entry (body_faults (spot_of spot.now) (written_body written.now)) }
+    ensures { result ≡ first_with best.entry
+        (body_faults (spot_of spot.now) (written_body written.now)) }
 {
     let best = writes(spot, written.writes.as_slice(), best);
     term(spot, &written.term, best)

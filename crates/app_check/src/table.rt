@@ -3,31 +3,17 @@
 ghost use Rattle.std.specs.Prelude.{◌≡◌, ◌<◌, ◌≤◌, IfOk, IfSome, length, map, take};
 ghost use Rattle.app_tree.specs.Declarations.{declaration, declarations, count_of, number_at, sort_of_form, parameter_count};
 ghost use Rattle.app_tree.specs.DraftView.{written_form, written_item};
-ghost use Rattle.app_tree.specs.Faults.{is_among, declared_name};
-ghost use Rattle.app_check.specs.Tables.{sorts_of, declared_of, told_of, is_told_before, number_among};
+ghost use Rattle.app_tree.specs.Faults.{is_named_among, declared_name};
+ghost use Rattle.app_tree.specs.Sorts.{sorts_of};
+ghost use Rattle.app_check.specs.inner.Tables.{declared_of, without_name, is_declared_before};
 
 use crate::index::Index;
-use app_tree::{DraftForm, DraftItem, Sort};
+use app_tree::{DraftForm, DraftItem, ITEM_LIMIT, Sort, Sorts};
 use rx_value::{Memory, RxText};
 use std::alloc::Global;
 use std::marker::Model;
 
-/// Sorts of declarations that belong together.
-#[derive(Clone, Copy, Debug, PartialEq, Eq)]
-pub enum Sorts {
-    Inputs,
-    Values,
-    Tasks,
-    /// Values and expressions, which are read by name and brackets.
-    Named,
-    Outputs,
-    /// Expressions, outputs and observers.
-    Readers,
-    /// All of them.
-    Any,
-}
-
-/// What is told of a declaration that is found.
+/// A declaration that is found, without its name.
 #[derive(Clone, Copy, Debug, PartialEq, Eq)]
 pub struct Declaration {
     /// The item's place among the items, from 0.
@@ -61,29 +47,34 @@ impl<'a> Model for Table<'a> {
 
     ghost coded = { Prim.hlevel (codes) };
 
-    ghost use Rattle.app_check.specs.Tables.{declared_of};
+    ghost use Rattle.app_check.specs.inner.Tables.{declared_of};
 
     ghost view = { λ t. map declared_of t.entries.items };
 
-    ghost use Rattle.app_check.specs.Indexed.{IsIndex};
+    ghost use Rattle.app_check.specs.inner.Indexed.{IsIndex};
 
     ghost invariant = { λ t. IsIndex t.index t.entries.items };
 }
 
-impl Sorts {
-    pub fn contain(self, sort: Sort) -> bool
-        ensures { result ≡ sorts_of self sort }
-    {
-        match self {
-            Sorts::Inputs => matches!(sort, Sort::Input),
-            Sorts::Values => matches!(sort, Sort::Value),
-            Sorts::Tasks => matches!(sort, Sort::Task),
-            Sorts::Named => matches!(sort, Sort::Value | Sort::Expression),
-            Sorts::Outputs => matches!(sort, Sort::Output),
-            Sorts::Readers => matches!(sort, Sort::Expression | Sort::Output | Sort::Observer),
-            Sorts::Any => true,
-        }
-    }
+/// What the items of an app declare. They are so few that each has its number.
+#[derive(Drop)]
+pub struct NumberedTable<'a> {
+    table: Table<'a>,
+}
+
+impl<'a> Model for NumberedTable<'a> {
+    ghost use Rattle.std.specs.Prelude.{◌≤◌, List, length};
+    ghost use Rattle.std.specs.Coded.{codes};
+    ghost use Rattle.app_tree.specs.Declarations.{Declared};
+    ghost use Rattle.app_tree.specs.declared.limits.TheConstants.{ITEM_LIMIT};
+
+    ghost Value = { List Declared };
+
+    ghost coded = { Prim.hlevel (codes) };
+
+    ghost view = { λ t. t.table };
+
+    ghost invariant = { λ t. length t.table ≤ ITEM_LIMIT };
 }
 
 /// How many of the entries are of these sorts.
@@ -100,28 +91,9 @@ fn count(entries: &[Entry<'_>], sorts: Sorts) -> usize
     found
 }
 
-/// The number of an item of this sort, behind these entries among all.
-fn number_among(all: &[Entry<'_>], before: &[Entry<'_>], sort: Sort) -> usize
-    requires all { length all.now ≤ 500 }
-    requires before { length before.now ≤ 500 }
-    ensures value { result ≡ number_among (map declared_of all.now) (map declared_of before.now) sort }
-    ensures most { result ≤ 1500 }
-{
-    match sort {
-        Sort::Input => count(before, Sorts::Inputs),
-        Sort::Value => count(all, Sorts::Inputs) + count(before, Sorts::Values),
-        Sort::Task => {
-            count(all, Sorts::Inputs) + (count(all, Sorts::Values) + count(before, Sorts::Tasks))
-        }
-        Sort::Expression => count(before, Sorts::Readers),
-        Sort::Output => count(before, Sorts::Readers),
-        Sort::Observer => count(before, Sorts::Readers),
-    }
-}
-
 /// Whether a declaration was found, at an earlier place than this one.
 fn is_before(found: Option<Declaration>, place: usize) -> bool
-    ensures { result ≡ is_told_before place found }
+    ensures { result ≡ is_declared_before place found }
 {
     match found {
         Some(found) => found.item < place,
@@ -156,7 +128,8 @@ fn parameter_count(form: &DraftForm) -> usize
 
 /// What these items declare, one after the other.
 fn entries_of<'a>(alloc: Global, items: &'a [DraftItem]) -> Result<Vec<Entry<'a>>, Memory>
-    ensures { IfOk result (λ entries. map declared_of entries.items ≡ declarations (map written_item items.now)) }
+    ensures { IfOk result
+        (λ entries. map declared_of entries.items ≡ declarations (map written_item items.now)) }
 {
     let mut entries = Vec::new(alloc);
     for item in items {
@@ -187,29 +160,74 @@ impl Table<'_> {
     /// The first declaration of this name among those of the sorts that are sought.
     pub fn find(&self, sought: Sorts, name: &RxText) -> Option<Declaration>
         ensures within { IfSome result (λ found. found.item < length self.now) }
-        ensures value { result ≡ told_of (declaration (sorts_of sought) name.now self.now) }
+        ensures value { result ≡ without_name (declaration (sorts_of sought) name.now self.now) }
     {
         self.index.of(sought).get(name.as_str()).copied()
     }
 
     /// Whether one of the first `count` items has this name.
-    #[tactic(auto, using(crate::proofs::Keyed::told_before))]
+    #[tactic(auto, using(crate::proofs::Keyed::is_declared_before_count))]
     pub fn is_named_before(&self, count: usize, name: &RxText) -> bool
         requires { count ≤ length self.now }
-        ensures { result ≡ is_among name.now (map declared_name (take count self.now)) }
+        ensures { result ≡ is_named_among name.now (map declared_name (take count self.now)) }
     {
         is_before(self.find(Sorts::Any, name), count)
     }
+}
+
+impl<'a> NumberedTable<'a> {
+    /// What the items of an app declare.
+    pub fn new(table: Table<'a>) -> NumberedTable<'a>
+        requires { length table ≤ ITEM_LIMIT }
+        ensures { result ≡ table.entry }
+    {
+        NumberedTable { table }
+    }
+}
+
+impl NumberedTable<'_> {
+    /// The first declaration of this name among those of the sorts that are sought.
+    pub fn find(&self, sought: Sorts, name: &RxText) -> Option<Declaration>
+        ensures within { IfSome result (λ found. found.item < length self.now) }
+        ensures value { result ≡ without_name (declaration (sorts_of sought) name.now self.now) }
+    {
+        self.table.find(sought, name)
+    }
+
+    /// How many items are of these sorts.
+    fn count(&self, sorts: Sorts) -> u32
+        ensures value { result ≡ count_of (sorts_of sorts) self.now }
+        ensures most { result ≤ ITEM_LIMIT }
+    {
+        count(self.table.entries.as_slice(), sorts) as u32
+    }
+
+    /// How many of the items before this place are of these sorts.
+    #[tactic(auto, using(crate::proofs::Counted::entries_taken))]
+    fn count_before(&self, item: usize, sorts: Sorts) -> u32
+        requires { item ≤ length self.now }
+        ensures value { result ≡ count_of (sorts_of sorts) (take item self.now) }
+        ensures most { result ≤ ITEM_LIMIT }
+    {
+        count(&self.table.entries.as_slice()[..item], sorts) as u32
+    }
 
     /// The number of the item at this place, which is of this sort: the source number of an input, a value
-    /// or a task, the reader number of what is run. A table of more items than an app may have gives none.
-    #[tactic(auto, using(crate::proofs::Counted::number_taken))]
+    /// or a task, the reader number of what is run.
     pub fn number_at(&self, item: usize, sort: Sort) -> u32
-        requires room { length self.now ≤ 500 }
-        requires within { item ≤ length self.now }
+        requires { item ≤ length self.now }
         ensures { result ≡ number_at self.now item sort }
     {
-        let all = self.entries.as_slice();
-        number_among(all, &all[..item], sort) as u32
+        match sort {
+            Sort::Input => self.count_before(item, Sorts::Inputs),
+            Sort::Value => self.count(Sorts::Inputs) + self.count_before(item, Sorts::Values),
+            Sort::Task => {
+                let values = self.count(Sorts::Values) + self.count_before(item, Sorts::Tasks);
+                self.count(Sorts::Inputs) + values
+            }
+            Sort::Expression => self.count_before(item, Sorts::Readers),
+            Sort::Output => self.count_before(item, Sorts::Readers),
+            Sort::Observer => self.count_before(item, Sorts::Readers),
+        }
     }
 }

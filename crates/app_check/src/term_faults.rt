@@ -3,15 +3,17 @@
 ghost use Rattle.std.specs.Prelude.{◌≡◌, ◌++◌};
 ghost use Rattle.app_tree.specs.Declarations.{declaration};
 ghost use Rattle.app_tree.specs.Resolve.{sought_by};
+ghost use Rattle.app_tree.specs.DraftTree.{isolate as written_isolate, choice as written_choice};
 ghost use Rattle.app_tree.specs.DraftView.{draft_tree_of, draft_trees_of};
 ghost use Rattle.app_tree.specs.Faults.{first_with, unknown_name, unbound_variable, is_forward, forward_read, in_task_fault, isolate_in_fold, fold_too_deep, same_variables, read_faults, term_faults, terms_faults, in_last_part};
-ghost use Rattle.app_check.specs.Tables.{sorts_of, told_of};
-ghost use Rattle.app_check.specs.Spots.{spot_of, is_told_forward};
+ghost use Rattle.app_tree.specs.Sorts.{sorts_of};
+ghost use Rattle.app_check.specs.inner.Tables.{without_name};
+ghost use Rattle.app_check.specs.inner.Spots.{spot_of, is_declared_forward};
 
 use crate::found::{Found, where_fails};
 use crate::spot::Spot;
-use crate::table::{Declaration, Sorts, Table};
-use app_tree::{DraftTerm, Fault, Name, ReadForm, Sort};
+use crate::table::{Declaration, Table};
+use app_tree::{DraftTerm, Fault, Name, ReadForm, Sort, Sorts};
 
 /// What a read reads.
 pub fn sought_by(form: ReadForm) -> Sorts
@@ -28,7 +30,7 @@ pub fn sought_by(form: ReadForm) -> Sorts
 }
 
 /// Refuses a name that is not declared in a sort that is sought.
-#[tactic(auto, using(crate::proofs::Told::told_none))]
+#[tactic(auto, using(crate::proofs::WithoutName::is_none_without_name))]
 pub fn unknown_name<'a>(
     table: &Table<'_>,
     sought: Sorts,
@@ -43,7 +45,7 @@ pub fn unknown_name<'a>(
 
 /// Whether what was found is the expression in which the read stands, or a later one.
 fn is_forward(spot: &Spot<'_, '_>, found: Option<Declaration>) -> bool
-    ensures { result ≡ is_told_forward (spot_of spot.now) found }
+    ensures { result ≡ is_declared_forward (spot_of spot.now) found }
 {
     match found {
         Some(found) => {
@@ -54,7 +56,7 @@ fn is_forward(spot: &Spot<'_, '_>, found: Option<Declaration>) -> bool
 }
 
 /// Refuses the read of the expression in which it stands, or of a later one.
-#[tactic(auto, using(crate::proofs::Told::told_forward))]
+#[tactic(auto, using(crate::proofs::WithoutName::is_declared_forward_without_name))]
 fn forward_read<'a>(
     spot: &Spot<'_, 'a>,
     form: ReadForm,
@@ -99,16 +101,6 @@ fn variable<'a>(spot: &Spot<'_, 'a>, name: &'a Name, best: Option<Found<'a>>) ->
     where_fails(best, unbound, Found::of(Fault::NameUnknown, name))
 }
 
-/// Refuses `isolate` where it may not stand.
-#[tactic(auto, using(crate::proofs::First::first_with_append))]
-fn isolate<'a>(spot: &Spot<'_, 'a>, place: usize, best: Option<Found<'a>>) -> Option<Found<'a>>
-    ensures { result ≡ first_with best.entry (in_task_fault (spot_of spot.now) place ++ isolate_in_fold (spot_of spot.now) place) }
-{
-    let best = in_task(spot, place, best);
-    let fails = spot.scope.is_in_last_part();
-    where_fails(best, fails, Found::at(Fault::IsolateInFold, place))
-}
-
 /// Refuses `fold` where it may not stand, and variables of one name.
 #[tactic(auto, using(crate::proofs::First::first_with_append))]
 fn fold<'a>(
@@ -118,7 +110,8 @@ fn fold<'a>(
     element: &'a Name,
     best: Option<Found<'a>>,
 ) -> Option<Found<'a>>
-    ensures { result ≡ first_with best.entry (fold_too_deep (spot_of spot.now) place ++ same_variables accumulator.now element.now) }
+    ensures { result ≡ first_with best.entry
+        (fold_too_deep (spot_of spot.now) place ++ same_variables accumulator.now element.now) }
 {
     let deep = spot.scope.is_in_inner_last_part();
     let best = where_fails(best, deep, Found::at(Fault::FoldTooDeep, place));
@@ -134,17 +127,15 @@ pub fn term<'a>(
     written: &'a DraftTerm,
     best: Option<Found<'a>>,
 ) -> Option<Found<'a>>
-    ensures { result ≡ first_with best.entry (term_faults (spot_of spot.now) (draft_tree_of written.now)) }
+    ensures { result ≡ first_with best.entry
+        (term_faults (spot_of spot.now) (draft_tree_of written.now)) }
 {
     match written {
         DraftTerm::Null | DraftTerm::Bool(_) | DraftTerm::Int(_) | DraftTerm::Text(_) => best,
         DraftTerm::Group(inner) => term(spot, inner.get(), best),
         DraftTerm::Read { form, place, name } => read(spot, *form, *place, name, best),
         DraftTerm::Variable(name) => variable(spot, name, best),
-        DraftTerm::Isolate(place, inner) => {
-            let best = isolate(spot, *place, best);
-            term(spot, inner.get(), best)
-        }
+        DraftTerm::Isolate(place, inner) => isolate(spot, *place, inner.get(), best),
         DraftTerm::Stop(inner) => term(spot, inner.get(), best),
         DraftTerm::Require { term: inner, .. } => term(spot, inner.get(), best),
         DraftTerm::Fold {
@@ -161,21 +152,65 @@ pub fn term<'a>(
             last_part(spot, accumulator, element, body.get(), best)
         }
         DraftTerm::Unary(_, inner) => term(spot, inner.get(), best),
-        DraftTerm::Binary(_, left, right) => {
-            let best = term(spot, left.get(), best);
-            term(spot, right.get(), best)
-        }
+        DraftTerm::Binary(_, left, right) => binary(spot, left.get(), right.get(), best),
         DraftTerm::If {
             condition,
             chosen,
             otherwise,
-        } => {
-            let best = term(spot, condition.get(), best);
-            let best = term(spot, chosen.get(), best);
-            term(spot, otherwise.get(), best)
-        }
+        } => choice(spot, condition.get(), chosen.get(), otherwise.get(), best),
         DraftTerm::Call(_, arguments) => terms(spot, arguments.as_slice(), best),
     }
+}
+
+/// Refuses `isolate` where it may not stand, and what is wrong within it.
+#[cycle(term)]
+#[tactic(auto, using(crate::proofs::First::first_with_append))]
+fn isolate<'a>(
+    spot: &Spot<'_, 'a>,
+    place: usize,
+    inner: &'a DraftTerm,
+    best: Option<Found<'a>>,
+) -> Option<Found<'a>>
+    ensures { result ≡ first_with best.entry
+        (term_faults (spot_of spot.now) (written_isolate place (draft_tree_of inner.now))) }
+{
+    let best = in_task(spot, place, best);
+    let fails = spot.scope.is_in_last_part();
+    let best = where_fails(best, fails, Found::at(Fault::IsolateInFold, place));
+    term(spot, inner, best)
+}
+
+#[cycle(term)]
+#[tactic(auto, using(crate::proofs::First::first_with_append))]
+fn binary<'a>(
+    spot: &Spot<'_, 'a>,
+    left: &'a DraftTerm,
+    right: &'a DraftTerm,
+    best: Option<Found<'a>>,
+) -> Option<Found<'a>>
+    ensures { result ≡ first_with best.entry
+        (term_faults (spot_of spot.now) (draft_tree_of left.now)
+        ++ term_faults (spot_of spot.now) (draft_tree_of right.now)) }
+{
+    let best = term(spot, left, best);
+    term(spot, right, best)
+}
+
+#[cycle(term)]
+#[tactic(auto, using(crate::proofs::First::first_with_append))]
+fn choice<'a>(
+    spot: &Spot<'_, 'a>,
+    condition: &'a DraftTerm,
+    chosen: &'a DraftTerm,
+    otherwise: &'a DraftTerm,
+    best: Option<Found<'a>>,
+) -> Option<Found<'a>>
+    ensures { result ≡ first_with best.entry (term_faults (spot_of spot.now) (written_choice
+        (draft_tree_of condition.now) (draft_tree_of chosen.now) (draft_tree_of otherwise.now))) }
+{
+    let best = term(spot, condition, best);
+    let best = term(spot, chosen, best);
+    term(spot, otherwise, best)
 }
 
 /// The last part of a fold, in which its variables are bound.
@@ -187,7 +222,8 @@ fn last_part<'a>(
     body: &'a DraftTerm,
     best: Option<Found<'a>>,
 ) -> Option<Found<'a>>
-    ensures { result ≡ first_with best.entry (term_faults (in_last_part (spot_of spot.now) accumulator.now element.now) (draft_tree_of body.now)) }
+    ensures { result ≡ first_with best.entry (term_faults
+        (in_last_part (spot_of spot.now) accumulator.now element.now) (draft_tree_of body.now)) }
 {
     let inside = Spot {
         table: spot.table,
@@ -206,7 +242,8 @@ pub fn terms<'a>(
     written: &'a [DraftTerm],
     best: Option<Found<'a>>,
 ) -> Option<Found<'a>>
-    ensures { result ≡ first_with best.entry (terms_faults (spot_of spot.now) (draft_trees_of written.now)) }
+    ensures { result ≡ first_with best.entry
+        (terms_faults (spot_of spot.now) (draft_trees_of written.now)) }
 {
     let mut best = best;
     'terms: for inner in written {

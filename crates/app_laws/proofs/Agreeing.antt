@@ -9,7 +9,7 @@ use Rattle.rx_value.specs.Operators.{unary_result, binary_result}
 use Rattle.app_tree.specs.declared.term.Operator.{Operator}
 use Rattle.app_tree.specs.declared.term.Operator.TheVariants as operator
 use Rattle.app_tree.specs.Tree.{Tree, constant, group, get, variable, isolate, stop, require, fold, unary, binary, choice, call, Trees, no_trees, tree}
-use Rattle.app_tree.specs.Evaluate.{Answers, TraceEntry, reads, enters, leaves, Evaluation, Meaning, plain, then_by, then_with, wanted_bool, decided_by, operated, chosen_by, called, stopped, required, over_each, over_list, at_site, evaluate, evaluate_all}
+use Rattle.app_tree.specs.Evaluate.{Answers, TraceEntry, reads, enters, leaves, Evaluation, Meaning, plain, then_by, then_with, wanted_bool, decided_by, operated, chosen_by, called, stop_outcome, required, over_each, over_list, at_site, evaluate, evaluate_all}
 use Rattle.app_tree.specs.Trace.{Every}
 use Rattle.app_laws.specs.AskedLaws.{IsAnsweredAlike, EqualAnswersGiveEqual}
 
@@ -108,7 +108,7 @@ module _ (a b : Answers) where
     term_agrees (get r) args h = ap (λ o. record { outcome = o; asked = reads r ∷ []; outside = r ∷ [] }) (sym h.0)
     term_agrees (variable n) args h = refl
     term_agrees (isolate site t) args h = site_agree site (evaluate t) (term_agrees t) args (a.site site) (b.site site) refl refl h
-    term_agrees (stop t) args h = then_agree (evaluate t a args) (evaluate t b args) (λ x. plain (stopped x)) (λ x. plain (stopped x)) (term_agrees t args) (same_next (λ x. plain (stopped x))) h
+    term_agrees (stop t) args h = then_agree (evaluate t a args) (evaluate t b args) (λ x. plain (stop_outcome x)) (λ x. plain (stop_outcome x)) (term_agrees t args) (same_next (λ x. plain (stop_outcome x))) h
     term_agrees (require t cancels) args h =
         then_agree (evaluate t a args) (evaluate t b args) (λ x. plain (required cancels x)) (λ x. plain (required cancels x)) (term_agrees t args) (same_next (λ x. plain (required cancels x))) h
     term_agrees (fold list start accumulator element body) args h =

@@ -13,7 +13,7 @@ use Rattle.app_tree.specs.declared.term.Operator.{Operator}
 use Rattle.app_tree.specs.declared.term.Operator.TheVariants as operator
 use Rattle.app_tree.specs.declared.item.Flags.{Flags}
 use Rattle.app_tree.specs.Tree.{Tree, constant, group, get, variable, isolate, stop, require, fold, unary, binary, choice, call, Trees, no_trees, tree, Node, input, value, task, reactive, event, text, plot, observe, on}
-use Rattle.app_tree.specs.Evaluate.{Answers, given, enters, leaves, Evaluation, Meaning, plain, read_of, after, then_by, then_with, wanted_bool, decided_by, operated, chosen_by, called, stopped, required, over_each, over_list, at_site, evaluate, evaluate_all, site_count, site_count_all}
+use Rattle.app_tree.specs.Evaluate.{Answers, given, enters, leaves, Evaluation, Meaning, plain, read_of, after, then_by, then_with, wanted_bool, decided_by, operated, chosen_by, called, stop_outcome, required, over_each, over_list, at_site, evaluate, evaluate_all, site_count, site_count_all}
 use Rattle.app_tree.specs.Cover.{reads_in, reads_in_all}
 use Rattle.app_tree.specs.Fresh.{without_reads, rendered, cached, event_body, evaluate_node}
 use Rattle.app_tree.specs.Trace.{Every}
@@ -134,7 +134,7 @@ module _ (a : Answers) (Q : Read → Type 0) (P : ℕ → ℕ → Evaluation →
     term_has (isolate s t) n h d q i args =
         let here : P n h (at_site n (evaluate t) a args (a.site n)) = site n h (evaluate t) args (a.site n) (omega (i, arith)) refl (term_has t (suc n) h d.1 q (omega (i, arith)) args) in
         subst (λ k. P n h (at_site k (evaluate t) a args (a.site k))) (sym d.0) here
-    term_has (stop t) n h d q i args = ends n h (evaluate t a args) stopped (omega (i, arith)) (term_has t n h d q i args)
+    term_has (stop t) n h d q i args = ends n h (evaluate t a args) stop_outcome (omega (i, arith)) (term_has t n h d q i args)
     term_has (require t cancels) n h d q i args = ends n h (evaluate t a args) (required cancels) (omega (i, arith)) (term_has t n h d q i args)
     term_has (fold list start accumulator element body) n h d q i args =
         let m : ℕ = n + site_count list in

@@ -13,7 +13,7 @@ use Rattle.app_tree.specs.declared.term.Operator.{Operator}
 use Rattle.app_tree.specs.declared.term.Operator.TheVariants as operator
 use Rattle.app_tree.specs.declared.item.Flags.{Flags}
 use Rattle.app_tree.specs.Tree.{Tree, constant, group, get, variable, isolate, stop, require, fold, unary, binary, choice, call, Trees, no_trees, tree, Node, input, value, task, reactive, event, text, plot, observe, on}
-use Rattle.app_tree.specs.Evaluate.{Answers, TraceEntry, given, enters, leaves, Evaluation, Meaning, plain, after, then_by, then_with, wanted_bool, decided_by, operated, chosen_by, called, stopped, required, over_each, over_list, at_site, evaluate, evaluate_all, site_count}
+use Rattle.app_tree.specs.Evaluate.{Answers, TraceEntry, given, enters, leaves, Evaluation, Meaning, plain, after, then_by, then_with, wanted_bool, decided_by, operated, chosen_by, called, stop_outcome, required, over_each, over_list, at_site, evaluate, evaluate_all, site_count}
 use Rattle.app_tree.specs.Fresh.{without_reads, picture, rendered, cached, event_body, evaluate_node}
 use Rattle.app_tree.specs.Trace.{Every, OfRead, EveryRead}
 use Rattle.app_laws.specs.Recorded.{given_outcome, recorded}
@@ -139,7 +139,7 @@ module _ (a b : Answers) (P : Read → Type 0) where
     term_repeats (get r) args = λ h k. record { outcome = sym h.0; outside = refl; within = λ q. q }
     term_repeats (variable n) args = same _
     term_repeats (isolate s t) args = site s (evaluate t) args (a.site s) refl
-    term_repeats (stop t) args = ends (evaluate t a args) (evaluate t b args) stopped (term_repeats t args)
+    term_repeats (stop t) args = ends (evaluate t a args) (evaluate t b args) stop_outcome (term_repeats t args)
     term_repeats (require t cancels) args = ends (evaluate t a args) (evaluate t b args) (required cancels) (term_repeats t args)
     term_repeats (fold list start accumulator element body) args =
         both (evaluate list a args) (evaluate list b args) _ _ (term_repeats list args)

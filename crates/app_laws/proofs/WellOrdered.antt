@@ -1,9 +1,8 @@
 -- Each well-formed app is orderly.
-use Rattle.std.proofs.Common.{◌≡◌, ◌<◌, ◌≤◌, ℕ, zero, suc, ◌+◌, Bool, true, false, List, [], ◌∷◌, ◌++◌, map, take, filter, length, Option, Some, None, slice_get, nat_eq, nat_le, refl, sym, ◌∙◌, ap, subst, arith, le-leb, leb-false, add_assoc}
+use Rattle.std.proofs.Common.{◌≡◌, ◌<◌, ◌≤◌, ℕ, zero, suc, ◌+◌, Bool, true, false, List, [], ◌∷◌, ◌++◌, map, take, filter, length, Option, Some, None, slice_get, nat_le, refl, sym, ◌∙◌, ap, subst, arith, le-leb, leb-false, add_assoc}
 use Rattle.app_tree.specs.declared.item.Sort.{Sort}
 use Rattle.app_tree.specs.declared.item.Sort.TheVariants as sort
 use Rattle.app_tree.specs.declared.refusal.Fault.TheVariants as fault
-use Rattle.app_tree.specs.declared.refusal.Refusal.{Refusal}
 use Rattle.app_tree.specs.declared.term.Read.{Read}
 use Rattle.app_tree.specs.declared.draft_term.Name.{Name}
 use Rattle.app_tree.specs.declared.draft_term.ReadForm.{ReadForm}
@@ -17,26 +16,12 @@ use Rattle.app_tree.specs.DraftTree as draft
 use Rattle.app_tree.specs.DraftTree.{DraftTree, DraftTrees, DraftDeed, DraftAct, DraftActs, WrittenBody, WrittenForm, WrittenItem, DraftShape}
 use Rattle.app_tree.specs.Declarations.{Declared, is_input_sort, is_value_sort, is_task_sort, is_named_sort, is_reader_sort, declaration, declarations, declared_by, sort_of_form, count_of, number_at}
 use Rattle.app_tree.specs.Resolve.{deed_site_count, sought_by, inner_scope, read_to, resolved_read, draft_site_count, draft_site_count_all, resolved_tree, resolved_trees, act_site_count, acts_site_count, resolved_deed, resolved_act, resolved_acts, resolved_form, resolved_item, resolved}
-use Rattle.app_tree.specs.Faults.{refused, name_refused, where_fails, is_none, is_at_or_behind, is_forward, unknown_name, in_task_fault, forward_read, isolate_in_fold, fold_too_deep, same_variables, argument_count_fault, tree_count, Spot, in_last_part, Holder, in_expression, elsewhere, read_faults, term_faults, terms_faults, deed_faults, act_faults, acts_faults, writes_faults, body_faults, spot_in, form_faults, item_too_many, second_item, item_faults, items_faults, faults}
+use Rattle.app_tree.specs.Faults.{refused, name_refused, is_none, is_at_or_behind, is_forward, unknown_name, in_task_fault, forward_read, isolate_in_fold, fold_too_deep, same_variables, argument_count_fault, tree_count, Spot, in_last_part, Holder, in_expression, elsewhere, read_faults, term_faults, terms_faults, deed_faults, act_faults, acts_faults, writes_faults, body_faults, spot_in, form_faults, item_too_many, second_item, item_faults, items_faults, faults}
 use Rattle.app_tree.specs.WellFormed.{IsWellFormed}
+use Rattle.app_tree.proofs.NoFaults.{nothing_left, nothing_right, holds_not, all_pass}
 use Rattle.app_tree.proofs.Numbers.{finds}
 use Rattle.app_tree.specs.Trace.{Every}
 use Rattle.app_laws.specs.Orderly.{act_sites, acts_sites, IsNumberedAct, AreNumberedActs, reads_in_act, reads_in_acts, reads_in_node, ReadsBelow, bound_of, IsNumbered, AreNumbered, IsNumberedNode, IsOrderly}
-
--- ---- no refusals
-
--- a list of parts is empty where each part is
-nothing_left : (rs ss : List Refusal) → rs ++ ss ≡ [] → rs ≡ []
-nothing_left [] ss e = refl
-nothing_left (r ∷ rs) ss e = absurd cc
-
-nothing_right : (rs ss : List Refusal) → rs ++ ss ≡ [] → ss ≡ []
-nothing_right [] ss e = e
-nothing_right (r ∷ rs) ss e = absurd cc
-
-holds_not : (b : Bool) (r : Refusal) → where_fails b r ≡ [] → b ≡ false
-holds_not true r e = absurd cc
-holds_not false r e = refl
 
 some_of : {A : Type 0} (o : Option A) (P : Type 0) → is_none o ≡ false → ((x : A) → o ≡ Some x → P) → P
 some_of None P e f = absurd cc
@@ -540,25 +525,9 @@ module _ (d : DraftShape) where
 
 -- ---- whole apps
 
--- a draft that passes the checks has at most 500 items, so that all of them were looked at
-few : (table : List Declared) (items : List WrittenItem) (k m : ℕ) → k + m ≡ 500 → items_faults table k (take (suc m) items) ≡ [] → take (suc m) items ≡ items
-few table [] k m at none = refl
-few table (i ∷ more) k zero at none =
-    let here : k ≡ 500 = omega (arith, at) in
-    let one = nothing_left (item_faults table k i) [] none in
-    let two = nothing_left (item_too_many k i ++ second_item table k i) (form_faults table k i.form) one in
-    let is = holds_not (nat_eq k 500) (refused fault.TooManyItems i.place) (nothing_left (item_too_many k i) (second_item table k i) two) in
-    let no : true ≡ false = ap (λ j. nat_eq j 500) (sym here) ∙ is in
-    absurd cc
-few table (i ∷ more) k (suc m) at none =
-    ap (λ rest. i ∷ rest) (few table more (suc k) m (omega (arith, at)) (nothing_right (item_faults table k i) (items_faults table (suc k) (take (suc m) more)) none))
-
 module _ (d : DraftShape) (none : faults d ≡ []) where
   reader_is : (n : ℕ) (i : Node) → reader (resolved d) n ≡ Some i → IsOf (declarations d.items) 0 d.items n i
-  reader_is n i e =
-      let all : take 501 d.items ≡ d.items = few (declarations d.items) d.items 0 500 (omega arith) none in
-      let whole = subst (λ (items : List WrittenItem). items_faults (declarations d.items) 0 items ≡ []) all none in
-      reader_of (declarations d.items) 0 d.items n i whole e
+  reader_is n i e = reader_of (declarations d.items) 0 d.items n i (all_pass d none) e
 
   passing : (k : ℕ) (w : WrittenItem) → item_faults (declarations d.items) k w ≡ [] → form_faults (declarations d.items) k w.form ≡ []
   passing k w none = nothing_right (item_too_many k w ++ second_item (declarations d.items) k w) (form_faults (declarations d.items) k w.form) none

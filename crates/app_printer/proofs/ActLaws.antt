@@ -1,6 +1,8 @@
 -- The tokens of the canonical text of statements.
 use Rattle.std.proofs.Common.{◌≡◌, ℕ, zero, suc, List, [], ◌∷◌, ◌++◌, codes, refl, ap, ap₂, true, ◌&&◌, append_assoc, map}
+use Rattle.std.proofs.Math.Bool.{and-eq-true_iff}
 use Rattle.std.specs.List.{list_all}
+use Rattle.app_tree.specs.declared.limits.TheConstants.{LEVEL_LIMIT}
 use Rattle.rx_value.specs.Names.{is_name}
 use Rattle.app_tokens.specs.declared.word.Word.TheVariants as word
 use Rattle.app_tokens.specs.declared.symbol.Symbol.TheVariants as symbol
@@ -13,7 +15,7 @@ use Rattle.app_tree.specs.Unplaced.{unplaced_of, unplaced_tree, unplaced_written
 use Rattle.app_check.specs.Words.{term_has_words, terms_have_words, deed_has_words, act_has_words, acts_have_words}
 use Rattle.app_printer.proofs.Reserved.{word_text}
 use Rattle.app_printer.proofs.TokenLaws.{Stands, place_of, name_there, Stands-blank, Stands-word, Stands-word_at, Stands-name, Stands-open, Stands-close, Stands-open_brace, Stands-close_brace, Stands-semicolon, Stands-assign}
-use Rattle.app_printer.proofs.TermLaws.{both, Spelled, regrouped, enclosed, below, term_spelled, terms_spelled}
+use Rattle.app_printer.proofs.TermLaws.{Spelled, regrouped, enclosed, below, term_spelled, terms_spelled}
 
 -- ---- writes
 
@@ -26,8 +28,8 @@ assigned_spelled : (total : ℕ) (name : Name) (t : DraftTree) (rest : List ℕ)
     → (there : Name) × (placed : DraftTree) × (unplaced_of there ≡ unplaced_of name) × (unplaced_tree placed ≡ unplaced_tree t)
     × Stands total (name.text ++ (codes " = " ++ (term_text t ++ 59 ∷ rest))) (spell_assigned there placed w)
 assigned_spelled total name t rest w fits words behind =
-    let h = both (is_name name.text) (term_has_words t) words in
-    let b = below t 64 fits in
+    let h = (and-eq-true_iff (is_name name.text) (term_has_words t)).0 words in
+    let b = below t LEVEL_LIMIT fits in
     let r = term_spelled total t b.levels (59 ∷ rest) (a_symbol symbol.Semicolon w) b.fits h.1 refl (Stands-semicolon total rest w behind) in
     let after = codes " = " ++ (term_text t ++ 59 ∷ rest) in (
       name_there total name.text after,
@@ -64,8 +66,8 @@ deed_spelled total place (set name t) rest w fits words behind =
           (Stands-word_at total word.Set (32 ∷ inside) _ refl (Stands-blank total 32 inside _ refl r.4));
     }
 deed_spelled total place (invoke name ts) rest w fits words behind =
-    let h = both (is_name name.text) (terms_have_words ts) words in
-    let r = terms_spelled total ts 64 (41 ∷ 59 ∷ rest) (a_symbol symbol.Close (a_symbol symbol.Semicolon w)) fits h.1 refl
+    let h = (and-eq-true_iff (is_name name.text) (terms_have_words ts)).0 words in
+    let r = terms_spelled total ts LEVEL_LIMIT (41 ∷ 59 ∷ rest) (a_symbol symbol.Close (a_symbol symbol.Semicolon w)) fits h.1 refl
     (Stands-close total (59 ∷ rest) (a_symbol symbol.Semicolon w) (Stands-semicolon total rest w behind)) in
     let after = 40 ∷ (terms_text ts ++ 41 ∷ 59 ∷ rest) in
     record {
@@ -97,8 +99,8 @@ pub writes_spelled : (total : ℕ) (ws : List WrittenDeed) (rest : List ℕ) (w 
     → Stands total rest w → Spelled (map unplaced_written) spell_writes total (writes_text ws ++ rest) ws w
 writes_spelled total [] rest w fits words behind = record { placed = []; same = refl; stands = behind }
 writes_spelled total (d ∷ ds) rest w fits words behind =
-    let f = both (write_fits d) (list_all write_fits ds) fits in
-    let h = both (deed_has_words d.deed) (list_all (λ d. deed_has_words d.deed) ds) words in
+    let f = (and-eq-true_iff (write_fits d) (list_all write_fits ds)).0 fits in
+    let h = (and-eq-true_iff (deed_has_words d.deed) (list_all (λ d. deed_has_words d.deed) ds)).0 words in
     let more = writes_spelled total ds rest w f.1 h.1 behind in
     let first = deed_spelled total d.place d.deed (32 ∷ (writes_text ds ++ rest)) _ f.0 h.0 (Stands-blank total 32 _ _ refl more.stands) in
     record {
@@ -113,7 +115,7 @@ writes_spelled total (d ∷ ds) rest w fits words behind =
 condition_spelled : (total : ℕ) (t : DraftTree) (rest : List ℕ) (w : Wording) → whole_fits t ≡ true → term_has_words t ≡ true → Stands total rest w
     → Spelled unplaced_tree spell_condition total (codes "if (" ++ (term_text t ++ (codes ") " ++ rest))) t w
 condition_spelled total t rest w fits words behind =
-    let b = below t 64 fits in
+    let b = below t LEVEL_LIMIT fits in
     let r = term_spelled total t b.levels (codes ") " ++ rest) (a_symbol symbol.Close w) b.fits words refl
     (Stands-close total (32 ∷ rest) w (Stands-blank total 32 rest w refl behind)) in
     record {
@@ -162,7 +164,7 @@ mutual
       let r = deed_spelled total d.place d.deed rest w fits words behind in
       record { placed = write r.placed; same = ap write r.same; stands = r.stands }
   act_spelled total (perform t) levels rest w fits words behind =
-      let b = below t 64 fits in
+      let b = below t LEVEL_LIMIT fits in
       let r = term_spelled total t b.levels (59 ∷ rest) (a_symbol symbol.Semicolon w) b.fits words refl (Stands-semicolon total rest w behind) in
       record {
         placed = perform r.placed;
@@ -171,8 +173,8 @@ mutual
             (Stands-word total word.Do (32 ∷ (term_text t ++ 59 ∷ rest)) _ refl (Stands-blank total 32 _ _ refl r.stands));
       }
   act_spelled total (branch t block) levels rest w fits words behind =
-      let f = both (whole_fits t) (deeper levels (λ b. acts_fit block b)) fits in
-      let h = both (term_has_words t) (acts_have_words block) words in
+      let f = (and-eq-true_iff (whole_fits t) (deeper levels (λ b. acts_fit block b))).0 fits in
+      let h = (and-eq-true_iff (term_has_words t) (acts_have_words block)).0 words in
       let b = acts_below block levels f.1 in
       let inside = acts_spelled total block b.levels (125 ∷ rest) (a_symbol symbol.CloseBrace w) b.fits h.1 (Stands-close_brace total rest w behind) in
       let r = condition_spelled total t (codes "{ " ++ (acts_text block ++ 125 ∷ rest)) _ f.0 h.0 (block_stands total (acts_text block) rest _ inside.stands) in
@@ -182,10 +184,10 @@ mutual
         stands = regrouped total _ _ _ (branch_text (term_text t) (acts_text block) rest) r.stands;
       }
   act_spelled total (branch_else t block other) levels rest w fits words behind =
-      let f = both (whole_fits t && deeper levels (λ b. acts_fit block b)) (deeper levels (λ b. acts_fit other b)) fits in
-      let g = both (whole_fits t) (deeper levels (λ b. acts_fit block b)) f.0 in
-      let h = both (term_has_words t && acts_have_words block) (acts_have_words other) words in
-      let i = both (term_has_words t) (acts_have_words block) h.0 in
+      let f = (and-eq-true_iff (whole_fits t && deeper levels (λ b. acts_fit block b)) (deeper levels (λ b. acts_fit other b))).0 fits in
+      let g = (and-eq-true_iff (whole_fits t) (deeper levels (λ b. acts_fit block b))).0 f.0 in
+      let h = (and-eq-true_iff (term_has_words t && acts_have_words block) (acts_have_words other)).0 words in
+      let i = (and-eq-true_iff (term_has_words t) (acts_have_words block)).0 h.0 in
       let b = acts_below block levels g.1 in
       let d = acts_below other levels f.1 in
       let last = acts_spelled total other d.levels (125 ∷ rest) (a_symbol symbol.CloseBrace w) d.fits h.1 (Stands-close_brace total rest w behind) in
@@ -205,8 +207,8 @@ mutual
       → Stands total rest w → Spelled unplaced_acts spell_acts total (acts_text block ++ rest) block w
   acts_spelled total no_acts levels rest w fits words behind = record { placed = no_acts; same = refl; stands = behind }
   acts_spelled total (act a more) levels rest w fits words behind =
-      let f = both (act_fits a levels) (acts_fit more levels) fits in
-      let h = both (act_has_words a) (acts_have_words more) words in
+      let f = (and-eq-true_iff (act_fits a levels) (acts_fit more levels)).0 fits in
+      let h = (and-eq-true_iff (act_has_words a) (acts_have_words more)).0 words in
       let others = acts_spelled total more levels rest w f.1 h.1 behind in
       let first = act_spelled total a levels (32 ∷ (acts_text more ++ rest)) _ f.0 h.0 (Stands-blank total 32 _ _ refl others.stands) in
       record {

@@ -4,6 +4,8 @@ use Rattle.std.specs.List.{list_all}
 use Rattle.std.specs.Str.{IsUtf8}
 use Rattle.std.specs.Fmt.{decimal}
 use Rattle.std.proofs.lemmas.Bool.Decides.{nat_tests}
+use Rattle.std.proofs.Math.Bool.{and-eq-true_iff}
+use Rattle.app_tree.specs.declared.limits.TheConstants.{BUDGET_DEFAULT}
 use Rattle.app_tokens.specs.declared.word.Word.TheVariants as word
 use Rattle.app_tokens.specs.declared.token.Token.{Token}
 use Rattle.app_tokens.specs.Tokens.{Tokens}
@@ -20,7 +22,7 @@ use Rattle.app_printer.specs.Laws.{TokensAreSpelling, TextIsRead}
 use Rattle.app_tree.proofs.Fitting.{fits_alike}
 use Rattle.app_printer.proofs.TokenLaws.{Stands, Stands-blank, Stands-word, Stands-semicolon}
 use Rattle.app_printer.proofs.Literals.{Stands-number}
-use Rattle.app_printer.proofs.TermLaws.{both, regrouped, enclosed}
+use Rattle.app_printer.proofs.TermLaws.{regrouped, enclosed}
 use Rattle.app_printer.proofs.ItemLaws.{first_stands, items_spelled}
 
 budget_natural : (n : ℕ) → is_budget n ≡ true → is_natural n ≡ true
@@ -34,7 +36,7 @@ budget_written total n rest w fits behind =
     (Stands-number total n (59 ∷ rest) _ (budget_natural n fits) refl (Stands-semicolon total rest w behind))))
 
 budget_stands : (total n : ℕ) (bytes : List ℕ) (w : Wording) → Stands total bytes (written_budget n w) → Stands total bytes (spell_budget n w)
-budget_stands total n bytes w stands = each (nat_eq n 1000)
+budget_stands total n bytes w stands = each (nat_eq n BUDGET_DEFAULT)
   where
     each : (t : Bool) → Stands total bytes (if t then either (written_budget n w) w else written_budget n w)
     each true = first_stands total bytes (written_budget n w) w stands
@@ -43,7 +45,7 @@ budget_stands total n bytes w stands = each (nat_eq n 1000)
 draft_spelled : (total : ℕ) (draft : DraftShape) → fits draft ≡ true → has_words draft ≡ true
     → (placed : DraftShape) × (unplaced placed ≡ unplaced draft) × Stands total (draft_text draft) (spelling placed)
 draft_spelled total draft fit words =
-    let f = both (is_budget draft.budget) (list_all item_fits draft.items) fit in
+    let f = (and-eq-true_iff (is_budget draft.budget) (list_all item_fits draft.items)).0 fit in
     let r = items_spelled total draft.items f.1 words in (
       record { budget = draft.budget; items = r.placed },
       ap (λ (xs : List WrittenItem). record { budget = draft.budget; items = xs }) r.same,

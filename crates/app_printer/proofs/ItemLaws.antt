@@ -1,7 +1,10 @@
 -- The tokens of the canonical text of items.
 use Rattle.std.proofs.Common.{◌≡◌, ℕ, zero, suc, ℤ, pos, negsuc, List, [], ◌∷◌, ◌++◌, codes, length, refl, sym, ap, ap₂, ◌∙◌, Bool, true, false, ◌&&◌, nat_le, subst, append_assoc, map}
+use Rattle.std.proofs.Math.Bool.{and-eq-true_iff}
 use Rattle.std.specs.List.{list_all}
 use Rattle.std.specs.Fmt.{decimal, signed_decimal}
+use Rattle.rx_value.specs.declared.limits.TheConstants.{LIST_LIMIT}
+use Rattle.app_tree.specs.declared.limits.TheConstants.{LEVEL_LIMIT}
 use Rattle.rx_value.specs.declared.value.Value.{Value}
 use Rattle.rx_value.specs.declared.value.Value.TheVariants as v
 use Rattle.app_tokens.specs.declared.word.Word.{Word}
@@ -19,7 +22,7 @@ use Rattle.app_check.specs.Words.{term_has_words, terms_have_words, deed_has_wor
 use Rattle.app_printer.proofs.Reserved.{word_text}
 use Rattle.app_printer.proofs.TokenLaws.{Stands, Stands-end, place_of, name_there, Stands-blank, Stands-word, Stands-word_at, Stands-name, Stands-open, Stands-close, Stands-open_brace, Stands-close_brace, Stands-semicolon, Stands-minus, Stands-assign}
 use Rattle.app_printer.proofs.Literals.{Stands-number, Stands-text}
-use Rattle.app_printer.proofs.TermLaws.{both, Stops, Spelled, regrouped, enclosed, below, Stands-separator, term_spelled, terms_spelled}
+use Rattle.app_printer.proofs.TermLaws.{Stops, Spelled, regrouped, enclosed, below, Stands-separator, term_spelled, terms_spelled}
 use Rattle.app_printer.proofs.ActLaws.{writes_spelled, acts_spelled, block_stands}
 
 -- ---- numbers and constants
@@ -45,7 +48,7 @@ more_numbers_stand : (total : ℕ) (zs : List ℤ) (rest : List ℕ) (w : Wordin
     → Stands total (more_numbers zs ++ rest) (spell_more_numbers zs w)
 more_numbers_stand total [] rest w fits halts behind = behind
 more_numbers_stand total (z ∷ zs) rest w fits halts behind =
-    let f = both (is_number z) (list_all is_number zs) fits in
+    let f = (and-eq-true_iff (is_number z) (list_all is_number zs)).0 fits in
     let more = more_numbers_stand total zs rest w f.1 halts behind in
     regrouped total _ _ _ (enclosed (codes ", ") (signed_decimal z) (more_numbers zs) rest)
     (Stands-separator total (signed_decimal z ++ (more_numbers zs ++ rest)) _
@@ -55,7 +58,7 @@ numbers_stand : (total : ℕ) (zs : List ℤ) (rest : List ℕ) (w : Wording) �
     → Stands total (numbers_text zs ++ rest) (spell_numbers zs w)
 numbers_stand total [] rest w fits halts behind = behind
 numbers_stand total (z ∷ zs) rest w fits halts behind =
-    let f = both (is_number z) (list_all is_number zs) fits in
+    let f = (and-eq-true_iff (is_number z) (list_all is_number zs)).0 fits in
     let more = more_numbers_stand total zs rest w f.1 halts behind in
     regrouped total _ _ _ (append_assoc (signed_decimal z) (more_numbers zs) rest)
     (number_stands total z (more_numbers zs ++ rest) _ f.0 (more_numbers_halts zs rest halts) more)
@@ -68,7 +71,7 @@ constant_stands total (v.Bool false) rest w fits halts behind = Stands-word tota
 constant_stands total (v.Int z) rest w fits halts behind = number_stands total z rest w fits halts behind
 constant_stands total (v.Text bytes) rest w fits halts behind = Stands-text total bytes rest w fits behind
 constant_stands total (v.Ints zs) rest w fits halts behind =
-    let f = both (nat_le (length zs) 1000) (list_all is_number zs) fits in
+    let f = (and-eq-true_iff (nat_le (length zs) LIST_LIMIT) (list_all is_number zs)).0 fits in
     let inside = numbers_stand total zs (41 ∷ rest) _ f.1 refl (Stands-close total rest w behind) in
     regrouped total _ _ _ (enclosed (codes "c(") (numbers_text zs) (codes ")") rest)
     (Stands-word total word.C (40 ∷ (numbers_text zs ++ 41 ∷ rest)) _ refl (Stands-open total (numbers_text zs ++ 41 ∷ rest) _ inside))
@@ -135,7 +138,7 @@ some_keys : (total : ℕ) (ts : DraftTrees) (rest : List ℕ) (w : Wording) → 
     → Spelled unplaced_trees (λ us x. a_word word.Cache (a_symbol symbol.Open (spell_terms us (a_symbol symbol.Close x)))) total
     ((codes " cache (" ++ terms_text ts ++ codes ")") ++ rest) ts w
 some_keys total ts rest w fits words behind =
-    let r = terms_spelled total ts 64 (41 ∷ rest) (a_symbol symbol.Close w) fits words refl (Stands-close total rest w behind) in
+    let r = terms_spelled total ts LEVEL_LIMIT (41 ∷ rest) (a_symbol symbol.Close w) fits words refl (Stands-close total rest w behind) in
     record {
       placed = r.placed;
       same = r.same;
@@ -172,9 +175,9 @@ body_same ws vs us xs t u e f = ap₂ (λ (x : List WrittenDeed) (y : DraftTree)
 body_spelled : (total : ℕ) (body : WrittenBody) (rest : List ℕ) (w : Wording) → body_fits body ≡ true → body_has_words body ≡ true → Stands total rest w
     → Spelled unplaced_body spell_body total (body_text body ++ rest) body w
 body_spelled total body rest w fits words behind =
-    let f = both (list_all write_fits body.writes) (whole_fits body.term) fits in
-    let h = both (list_all (λ d. deed_has_words d.deed) body.writes) (term_has_words body.term) words in
-    let b = below body.term 64 f.1 in
+    let f = (and-eq-true_iff (list_all write_fits body.writes) (whole_fits body.term)).0 fits in
+    let h = (and-eq-true_iff (list_all (λ d. deed_has_words d.deed) body.writes) (term_has_words body.term)).0 words in
+    let b = below body.term LEVEL_LIMIT f.1 in
     let last = term_spelled total body.term b.levels (32 ∷ 125 ∷ rest) (a_symbol symbol.CloseBrace w) b.fits h.1 refl
     (Stands-blank total 32 (125 ∷ rest) _ refl (Stands-close_brace total rest w behind)) in
     let first = writes_spelled total body.writes (term_text body.term ++ 32 ∷ 125 ∷ rest) _ f.0 h.0 last.stands in
@@ -200,7 +203,7 @@ block_spelled total block rest w fits words behind =
 bracketed_spelled : (total : ℕ) (t : DraftTree) (rest : List ℕ) (w : Wording) → whole_fits t ≡ true → term_has_words t ≡ true → Stands total rest w
     → Spelled unplaced_tree spell_bracketed total (codes " (" ++ (term_text t ++ (codes ") " ++ rest))) t w
 bracketed_spelled total t rest w fits words behind =
-    let b = below t 64 fits in
+    let b = below t LEVEL_LIMIT fits in
     let r = term_spelled total t b.levels (codes ") " ++ rest) (a_symbol symbol.Close w) b.fits words refl
     (Stands-close total (32 ∷ rest) w (Stands-blank total 32 rest w refl behind)) in
     record {
@@ -222,7 +225,7 @@ more_names_spelled : (total : ℕ) (ns : List Name) (rest : List ℕ) (w : Wordi
     → Spelled (map unplaced_of) spell_more_names total (more_names ns ++ rest) ns w
 more_names_spelled total [] rest w fits halts behind = record { placed = []; same = refl; stands = behind }
 more_names_spelled total (n ∷ ns) rest w fits halts behind =
-    let h = both (name_fits n) (list_all name_fits ns) fits in
+    let h = (and-eq-true_iff (name_fits n) (list_all name_fits ns)).0 fits in
     let more = more_names_spelled total ns rest w h.1 halts behind in
     let after = more_names ns ++ rest in
     record {
@@ -236,7 +239,7 @@ names_spelled : (total : ℕ) (ns : List Name) (rest : List ℕ) (w : Wording) �
     → Spelled (map unplaced_of) spell_names total (names_text ns ++ rest) ns w
 names_spelled total [] rest w fits halts behind = record { placed = []; same = refl; stands = behind }
 names_spelled total (n ∷ ns) rest w fits halts behind =
-    let h = both (name_fits n) (list_all name_fits ns) fits in
+    let h = (and-eq-true_iff (name_fits n) (list_all name_fits ns)).0 fits in
     let more = more_names_spelled total ns rest w h.1 halts behind in
     let after = more_names ns ++ rest in
     record {
@@ -262,9 +265,9 @@ output_same p h ks ls b c e f = ap₂ (λ (x : DraftTrees) (y : WrittenBody). re
 output_spelled : (total : ℕ) (output : WrittenOutput) (rest : List ℕ) (w : Wording) → output_fits output ≡ true → output_has_words output ≡ true → Stands total rest w
     → Spelled unplaced_output spell_output total (output_text output ++ rest) output w
 output_spelled total output rest w fits words behind =
-    let f = both (is_number output.priority && all_fit output.keys) (body_fits output.body) fits in
-    let g = both (is_number output.priority) (all_fit output.keys) f.0 in
-    let h = both (terms_have_words output.keys) (body_has_words output.body) words in
+    let f = (and-eq-true_iff (is_number output.priority && all_fit output.keys) (body_fits output.body)).0 fits in
+    let g = (and-eq-true_iff (is_number output.priority) (all_fit output.keys)).0 f.0 in
+    let h = (and-eq-true_iff (terms_have_words output.keys) (body_has_words output.body)).0 words in
     let body = body_spelled total output.body rest w f.1 h.1 behind in
     let after_keys = 32 ∷ (body_text output.body ++ rest) in
     let keys = keys_spelled total output.keys after_keys _ g.1 h.0 (Stands-blank total 32 (body_text output.body ++ rest) _ refl body.stands) in
@@ -309,8 +312,8 @@ form_spelled : (total : ℕ) (form : WrittenForm) (rest : List ℕ) (w : Wording
 form_spelled total (input start) rest w fits words behind = record { placed = input start; same = refl; stands = start_stands total start rest w fits behind }
 form_spelled total (value start) rest w fits words behind = record { placed = value start; same = refl; stands = start_stands total start rest w fits behind }
 form_spelled total (task parameters body) rest w fits words behind =
-    let f = both (list_all name_fits parameters) (whole_fits body) fits in
-    let b = below body 64 f.1 in
+    let f = (and-eq-true_iff (list_all name_fits parameters) (whole_fits body)).0 fits in
+    let b = below body LEVEL_LIMIT f.1 in
     let r = term_spelled total body b.levels (32 ∷ 125 ∷ rest) (a_symbol symbol.CloseBrace w) b.fits words refl
     (Stands-blank total 32 (125 ∷ rest) _ refl (Stands-close_brace total rest w behind)) in
     let inside = term_text body ++ 32 ∷ 125 ∷ rest in
@@ -324,8 +327,8 @@ form_spelled total (task parameters body) rest w fits words behind =
           (Stands-blank total 32 _ _ refl (Stands-open total (names_text parameters ++ after) _ names.stands));
     }
 form_spelled total (reactive keys body) rest w fits words behind =
-    let f = both (all_fit keys) (body_fits body) fits in
-    let h = both (terms_have_words keys) (body_has_words body) words in
+    let f = (and-eq-true_iff (all_fit keys) (body_fits body)).0 fits in
+    let h = (and-eq-true_iff (terms_have_words keys) (body_has_words body)).0 words in
     let r = body_spelled total body rest w f.1 h.1 behind in
     let k = keys_spelled total keys (32 ∷ (body_text body ++ rest)) _ f.0 h.0 (Stands-blank total 32 (body_text body ++ rest) _ refl r.stands) in
     record {
@@ -334,8 +337,8 @@ form_spelled total (reactive keys body) rest w fits words behind =
       stands = regrouped total _ _ _ (cached_text_of (keys_text keys) (body_text body) rest) k.stands;
     }
 form_spelled total (event flags e body) rest w fits words behind =
-    let f = both (whole_fits e) (body_fits body) fits in
-    let h = both (term_has_words e) (body_has_words body) words in
+    let f = (and-eq-true_iff (whole_fits e) (body_fits body)).0 fits in
+    let h = (and-eq-true_iff (term_has_words e) (body_has_words body)).0 words in
     let r = body_spelled total body rest w f.1 h.1 behind in
     let t = bracketed_spelled total e (body_text body ++ rest) _ f.0 h.0 r.stands in
     let after = codes " (" ++ (term_text e ++ (codes ") " ++ (body_text body ++ rest))) in
@@ -351,7 +354,7 @@ form_spelled total (plot output) rest w fits words behind =
     let r = output_spelled total output rest w fits words behind in
     record { placed = plot r.placed; same = ap plot r.same; stands = r.stands }
 form_spelled total (observe priority block) rest w fits words behind =
-    let f = both (is_number priority) (block_fits block) fits in
+    let f = (and-eq-true_iff (is_number priority) (block_fits block)).0 fits in
     let r = block_spelled total block rest w f.1 words behind in
     record {
       placed = observe priority r.placed;
@@ -360,9 +363,9 @@ form_spelled total (observe priority block) rest w fits words behind =
           (priority_stands total priority (32 ∷ (braced (acts_text block) ++ rest)) _ f.0 refl (Stands-blank total 32 _ _ refl r.stands));
     }
 form_spelled total (on priority flags e block) rest w fits words behind =
-    let f = both (is_number priority && whole_fits e) (block_fits block) fits in
-    let g = both (is_number priority) (whole_fits e) f.0 in
-    let h = both (term_has_words e) (acts_have_words block) words in
+    let f = (and-eq-true_iff (is_number priority && whole_fits e) (block_fits block)).0 fits in
+    let g = (and-eq-true_iff (is_number priority) (whole_fits e)).0 f.0 in
+    let h = (and-eq-true_iff (term_has_words e) (acts_have_words block)).0 words in
     let r = block_spelled total block rest w f.1 h.1 behind in
     let t = bracketed_spelled total e (braced (acts_text block) ++ rest) _ g.1 h.0 r.stands in
     let after = codes " (" ++ (term_text e ++ (codes ") " ++ (braced (acts_text block) ++ rest))) in
@@ -448,7 +451,7 @@ item_same p q n m f g e h = ap₂ (λ (x : Name) (y : WrittenForm). record { pla
 item_spelled : (total : ℕ) (item : WrittenItem) (rest : List ℕ) (w : Wording) → item_fits item ≡ true → item_has_words item ≡ true → Stands total rest w
     → Spelled unplaced_item spell_item total (item_text item ++ rest) item w
 item_spelled total item rest w fits words behind =
-    let h = both (name_fits item.name) (form_has_words item.form) words in
+    let h = (and-eq-true_iff (name_fits item.name) (form_has_words item.form)).0 words in
     let r = form_spelled total item.form rest w fits h.1 behind in
     let after = form_text item.form ++ rest in
     let name = name_there total item.name.text after in
@@ -470,8 +473,8 @@ pub items_spelled : (total : ℕ) (items : List WrittenItem) → list_all item_f
     → Spelled (map unplaced_item) spell_items total (items_text items) items ends
 items_spelled total [] fits words = record { placed = []; same = refl; stands = Stands-end total }
 items_spelled total (item ∷ items) fits words =
-    let f = both (item_fits item) (list_all item_fits items) fits in
-    let h = both (item_has_words item) (list_all item_has_words items) words in
+    let f = (and-eq-true_iff (item_fits item) (list_all item_fits items)).0 fits in
+    let h = (and-eq-true_iff (item_has_words item) (list_all item_has_words items)).0 words in
     let more = items_spelled total items f.1 h.1 in
     let first = item_spelled total item (10 ∷ items_text items) _ f.0 h.0 (Stands-blank total 10 (items_text items) _ refl more.stands) in
     record {

@@ -1,6 +1,5 @@
 pub mod Escapes
 pub mod Utf8
-pub mod Forms
 pub mod ItemForms
 pub mod Reserved
 pub mod TokenLaws

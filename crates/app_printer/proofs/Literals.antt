@@ -7,13 +7,15 @@ use Rattle.std.proofs.lemmas.Str.{IsUtf8-append, IsUtf8-from_is_utf8}
 use Rattle.std.proofs.lemmas.Bool.Decides.{nat_tests}
 use Rattle.std.proofs.lemmas.Str.Parse.{IsNumeralModel, numerals_by_fold}
 use Rattle.std.proofs.lemmas.Fmt.{digits_decimal, digits_value-decimal, decimal_nonempty}
+use Rattle.std.proofs.Math.Bool.{and-eq-true_iff}
+use Rattle.rx_value.specs.declared.limits.TheConstants.{TEXT_LIMIT, GREATEST_NUMBER}
 use Rattle.app_tokens.specs.declared.token.Kind.TheVariants as kind
 use Rattle.app_tokens.specs.declared.symbol.Symbol.TheVariants as symbol
 use Rattle.app_tokens.specs.declared.error.TokenError.{TokenError}
 use Rattle.rx_value.specs.Names.{is_digit, is_of_word}
 use Rattle.app_tokens.specs.Scan.{value_after, text_from, is_pair, meaning_of, piece_of, token}
 use Rattle.app_tokens.specs.Symbol.{symbol_of}
-use Rattle.app_tokens.specs.Text.{is_plain}
+use Rattle.app_tokens.specs.inner.Text.{is_plain}
 use Rattle.app_tokens.proofs.Again.{begins_with, piece_of-number, piece_of-text, symbol_of-one, text_from-escape, text_from-close}
 use Rattle.app_tokens.proofs.Texts.{text_from-plain}
 use Rattle.rx_value.specs.declared.operator.BinOp.TheVariants as bin
@@ -52,15 +54,10 @@ Stands-operator total (operator.Strict bin.GreaterOrEqual) rest w = Stands-symbo
 
 -- ---- numbers
 
-both : (a b : Bool) → (a && b) ≡ true → (a ≡ true) × (b ≡ true)
-both true true e = (refl, refl)
-both true false e = cc
-both false b e = cc
-
 pub numerals : IsNumeralModel (λ ds. list_all is_digit ds ≡ true) (value_after 0)
 numerals = numerals_by_fold _ (search rules) value_after (search rules)
 
-pub natural_below : (n : ℕ) → is_natural n ≡ true → (n ≤ 9223372036854775807) × (n < 2 ^ 64)
+pub natural_below : (n : ℕ) → is_natural n ≡ true → (n ≤ GREATEST_NUMBER) × (n < 2 ^ 64)
 natural_below n e = grind (arith, nat_tests)
 
 -- what ends a word ends a number
@@ -71,12 +68,12 @@ ends_number (b ∷ rest) stop = not_digit b stop
     not_digit : (b : ℕ) → is_of_word b ≡ false → is_digit b ≡ false
     not_digit b e = grind arith
 
-digits : (total n : ℕ) (ds rest : List ℕ) (w : Wording) → list_all is_digit ds ≡ true → 0 < length ds → value_after 0 ds ≡ n → n ≤ 9223372036854775807
+digits : (total n : ℕ) (ds rest : List ℕ) (w : Wording) → list_all is_digit ds ≡ true → 0 < length ds → value_after 0 ds ≡ n → n ≤ GREATEST_NUMBER
     → begins_with is_digit rest ≡ false → Stands total rest w → Stands total (ds ++ rest) (a_number n w)
 digits total n [] rest w all some value le stop behind = absurd (omega arith)
 digits total n (d ∷ ds) rest w all some value le stop behind =
-    let h = both (is_digit d) (list_all is_digit ds) all in
-    let small : value_after 0 (d ∷ ds) ≤ 9223372036854775807 = omega arith in
+    let h = (and-eq-true_iff (is_digit d) (list_all is_digit ds)).0 all in
+    let small : value_after 0 (d ∷ ds) ≤ GREATEST_NUMBER = omega arith in
     Stands-token total (d ∷ ds) rest (kind.Number n) (of_kind (kind.Number n)) w some (digits_utf8 (d ∷ ds) all)
     (λ place. piece_of-number true place d ds rest h.0 h.1 stop small ∙ ap (λ v. Ok (token (length (d ∷ ds)) (kind.Number v))) value) refl behind
 
@@ -125,7 +122,7 @@ escaped-read : (quote : ℕ) (bytes rest : List ℕ) → list_all is_text_byte b
 escaped-read quote [] rest all = λ place value.
     text_from-close true quote place value rest ∙ ends_same _ _ _ _ (sym (append-nil value)) (omega arith)
 escaped-read quote (b ∷ bytes) rest all =
-    let h = both (is_text_byte b) (list_all is_text_byte bytes) all in
+    let h = (and-eq-true_iff (is_text_byte b) (list_all is_text_byte bytes)).0 all in
     each (nat_eq b 34) (nat_eq b 92) (nat_eq b 10) refl refl refl h.0 (escaped-read quote bytes rest h.1)
   where
     each : (q s f : Bool) → nat_eq b 34 ≡ q → nat_eq b 92 ≡ s → nat_eq b 10 ≡ f → is_text_byte b ≡ true → IsRead quote bytes rest → IsRead quote (b ∷ bytes) rest
@@ -137,14 +134,14 @@ escaped-read quote (b ∷ bytes) rest all =
     each false false false quote_is slash_is feed_is fits more =
         plain_read quote b bytes rest more (escaped_byte-plain b quote_is slash_is feed_is) (plain b fits quote_is slash_is feed_is)
 
-short : (n : ℕ) → nat_le n 65536 ≡ true → n ≤ 65536
+short : (n : ℕ) → nat_le n TEXT_LIMIT ≡ true → n ≤ TEXT_LIMIT
 short n e = grind (arith, nat_tests)
 
 pub Stands-text : (total : ℕ) (bytes rest : List ℕ) (w : Wording) → is_text bytes ≡ true → Stands total rest w
     → Stands total (quoted bytes ++ rest) (next (of_kind (kind.Text bytes)) w)
 Stands-text total bytes rest w fits behind =
-    let u = both (nat_le (length bytes) 65536 && list_all is_text_byte bytes) (is_utf8 bytes) fits in
-    let h = both (nat_le (length bytes) 65536) (list_all is_text_byte bytes) u.0 in
+    let u = (and-eq-true_iff (nat_le (length bytes) TEXT_LIMIT && list_all is_text_byte bytes) (is_utf8 bytes)).0 fits in
+    let h = (and-eq-true_iff (nat_le (length bytes) TEXT_LIMIT) (list_all is_text_byte bytes)).0 u.0 in
     let utf8 = IsUtf8-append (34 ∷ []) (escaped bytes ++ 34 ∷ []) (ascii_utf8 (34 ∷ []) refl)
     (IsUtf8-append (escaped bytes) (34 ∷ []) (escaped_utf8 bytes (IsUtf8-from_is_utf8 bytes u.1)) (ascii_utf8 (34 ∷ []) refl)) in
     let size : (place : ℕ) → place + 1 + length (escaped bytes) + 1 - place ≡ length (quoted bytes) =

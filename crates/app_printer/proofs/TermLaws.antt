@@ -3,6 +3,8 @@ use Rattle.std.proofs.Common.{◌≡◌, ℕ, zero, suc, ◌<◌, pos, negsuc, L
 use Rattle.std.specs.List.{list_all}
 use Rattle.std.specs.Fmt.{decimal}
 use Rattle.std.proofs.lemmas.Fmt.{digits_decimal, decimal_nonempty}
+use Rattle.std.proofs.Math.Bool.{and-eq-true_iff}
+use Rattle.app_tree.specs.declared.limits.TheConstants.{OPERATOR_LIMIT}
 use Rattle.rx_value.specs.declared.value.Value.{Value}
 use Rattle.rx_value.specs.declared.value.Value.TheVariants as v
 use Rattle.rx_value.specs.declared.operator.UnOp.{UnOp}
@@ -29,11 +31,6 @@ use Rattle.app_check.specs.Words.{term_has_words, terms_have_words}
 use Rattle.app_printer.proofs.Reserved.{word_text}
 use Rattle.app_printer.proofs.TokenLaws.{Stands, place_of, name_there, Stands-blank, Stands-word, Stands-word_at, Stands-name, Stands-called, Stands-open, Stands-close, Stands-comma, Stands-dollar, Stands-minus, Stands-not}
 use Rattle.app_printer.proofs.Literals.{numerals, natural_below, Stands-operator, Stands-number, Stands-text}
-
-pub both : (a b : Bool) → (a && b) ≡ true → (a ≡ true) × (b ≡ true)
-both true true e = (refl, refl)
-both true false e = cc
-both false b e = cc
 
 -- what follows goes on with no word
 abbrev pub Stops : List ℕ → Type 0
@@ -164,7 +161,7 @@ Signable bytes = begins_with (λ c. nat_eq c 61) bytes ≡ false
 
 digits_signable : (ds rest : List ℕ) → list_all is_digit ds ≡ true → 0 < length ds → Signable (ds ++ rest)
 digits_signable [] rest all some = absurd (omega arith)
-digits_signable (d ∷ ds) rest all some = not_equals d (both (is_digit d) (list_all is_digit ds) all).0
+digits_signable (d ∷ ds) rest all some = not_equals d ((and-eq-true_iff (is_digit d) (list_all is_digit ds)).0 all).0
   where
     not_equals : (d : ℕ) → is_digit d ≡ true → nat_eq d 61 ≡ false
     not_equals d e = grind arith
@@ -172,7 +169,7 @@ digits_signable (d ∷ ds) rest all some = not_equals d (both (is_digit d) (list
 name_signable : (n rest : List ℕ) → is_name n ≡ true → Signable (n ++ rest)
 name_signable [] rest e = cc
 name_signable (b ∷ bs) rest e =
-    not_equals b (both (is_letter b) (list_all is_of_word bs) (both (is_letter b && list_all is_of_word bs) _ e).0).0
+    not_equals b ((and-eq-true_iff (is_letter b) (list_all is_of_word bs)).0 ((and-eq-true_iff (is_letter b && list_all is_of_word bs) _).0 e).0).0
   where
     not_equals : (b : ℕ) → is_letter b ≡ true → nat_eq b 61 ≡ false
     not_equals b e = grind arith
@@ -236,9 +233,9 @@ term_signable (require t cancels) levels rest fits words = refl
 term_signable (fold place list start a x body) levels rest fits words = refl
 term_signable (unary op t) levels rest fits words = resigned _ _ (append_assoc (sign_text op) (term_text t) rest) (sign_signable op (term_text t ++ rest))
 term_signable (binary op left right) levels rest fits words =
-    let f = both (are_operands op left right && term_fits left levels) (term_fits right levels) fits in
-    let g = both (are_operands op left right) (term_fits left levels) f.0 in
-    let h = both (term_has_words left) (term_has_words right) words in
+    let f = (and-eq-true_iff (are_operands op left right && term_fits left levels) (term_fits right levels)).0 fits in
+    let g = (and-eq-true_iff (are_operands op left right) (term_fits left levels)).0 f.0 in
+    let h = (and-eq-true_iff (term_has_words left) (term_has_words right)).0 words in
     resigned _ _ (binary_text (term_text left) (operator_text op) (term_text right) rest)
     (term_signable left levels (32 ∷ (operator_text op ++ 32 ∷ (term_text right ++ rest))) g.1 h.0)
 term_signable (choice condition chosen otherwise) levels rest fits words = refl
@@ -254,7 +251,7 @@ pub record Below (t : DraftTree) : Type 0 where
 
 pub below : (t : DraftTree) (levels : ℕ) → whole_in t levels (λ b. term_fits t b) ≡ true → Below t
 below t zero e = cc
-below t (suc levels) e = record { levels = levels; fits = (both (nat_le (operators t) 64) (term_fits t levels) e).1 }
+below t (suc levels) e = record { levels = levels; fits = ((and-eq-true_iff (nat_le (operators t) OPERATOR_LIMIT) (term_fits t levels)).0 e).1 }
 
 deeper_below : (t : DraftTree) (levels : ℕ) → deeper levels (λ b. term_fits t b) ≡ true → Below t
 deeper_below t zero e = cc
@@ -344,12 +341,12 @@ mutual
   term_spelled total (fold place list start a x body) levels rest w fits words halts behind =
       let list_fits : Bool = whole_in list levels (λ b. term_fits list b) in
       let start_fits : Bool = whole_in start levels (λ b. term_fits start b) in
-      let f = both (list_fits && start_fits && name_fits a && name_fits x) (whole_in body levels (λ b. term_fits body b)) fits in
-      let i = both (list_fits && start_fits && name_fits a) (name_fits x) f.0 in
-      let j = both (list_fits && start_fits) (name_fits a) i.0 in
-      let g = both list_fits start_fits j.0 in
-      let h = both (term_has_words list && term_has_words start) (term_has_words body) words in
-      let k = both (term_has_words list) (term_has_words start) h.0 in
+      let f = (and-eq-true_iff (list_fits && start_fits && name_fits a && name_fits x) (whole_in body levels (λ b. term_fits body b))).0 fits in
+      let i = (and-eq-true_iff (list_fits && start_fits && name_fits a) (name_fits x)).0 f.0 in
+      let j = (and-eq-true_iff (list_fits && start_fits) (name_fits a)).0 i.0 in
+      let g = (and-eq-true_iff list_fits start_fits).0 j.0 in
+      let h = (and-eq-true_iff (term_has_words list && term_has_words start) (term_has_words body)).0 words in
+      let k = (and-eq-true_iff (term_has_words list) (term_has_words start)).0 h.0 in
       let list_below = below list levels g.0 in
       let start_below = below start levels g.1 in
       let body_below = below body levels f.1 in
@@ -374,7 +371,7 @@ mutual
             (opened_at total word.Fold (term_text list ++ after_list) (spell_term first.placed start_wanted) first.stands);
       }
   term_spelled total (unary op t) levels rest w fits words halts behind =
-      let f = both (is_signed t) (deeper levels (λ b. term_fits t b)) fits in
+      let f = (and-eq-true_iff (is_signed t) (deeper levels (λ b. term_fits t b))).0 fits in
       let b = deeper_below t levels f.1 in
       let r = term_spelled total t b.levels rest w b.fits words halts behind in
       record {
@@ -384,9 +381,9 @@ mutual
             (sign_stands total op (term_text t ++ rest) _ (term_signable t b.levels rest b.fits words) r.stands);
       }
   term_spelled total (binary op left right) levels rest w fits words halts behind =
-      let f = both (are_operands op left right && term_fits left levels) (term_fits right levels) fits in
-      let g = both (are_operands op left right) (term_fits left levels) f.0 in
-      let h = both (term_has_words left) (term_has_words right) words in
+      let f = (and-eq-true_iff (are_operands op left right && term_fits left levels) (term_fits right levels)).0 fits in
+      let g = (and-eq-true_iff (are_operands op left right) (term_fits left levels)).0 f.0 in
+      let h = (and-eq-true_iff (term_has_words left) (term_has_words right)).0 words in
       let second = term_spelled total right levels rest w f.1 h.1 halts behind in
       let between = Stands-blank total 32 _ _ refl (Stands-operator total op (term_text right ++ rest) (spell_term second.placed w) (Stands-blank total 32 _ _ refl second.stands)) in
       let first = term_spelled total left levels (32 ∷ (operator_text op ++ 32 ∷ (term_text right ++ rest))) (a_symbol (operator_symbol op) (spell_term second.placed w)) g.1 h.0 refl between in
@@ -396,11 +393,10 @@ mutual
         stands = regrouped total _ _ _ (binary_text (term_text left) (operator_text op) (term_text right) rest) first.stands;
       }
   term_spelled total (choice condition chosen otherwise) levels rest w fits words halts behind =
-      let f = both (whole_in condition levels (λ b. term_fits condition b) && whole_in chosen levels (λ b. term_fits chosen b))
-      (whole_in otherwise levels (λ b. term_fits otherwise b)) fits in
-      let g = both (whole_in condition levels (λ b. term_fits condition b)) (whole_in chosen levels (λ b. term_fits chosen b)) f.0 in
-      let h = both (term_has_words condition && term_has_words chosen) (term_has_words otherwise) words in
-      let i = both (term_has_words condition) (term_has_words chosen) h.0 in
+      let f = (and-eq-true_iff (whole_in condition levels (λ b. term_fits condition b) && whole_in chosen levels (λ b. term_fits chosen b)) (whole_in otherwise levels (λ b. term_fits otherwise b))).0 fits in
+      let g = (and-eq-true_iff (whole_in condition levels (λ b. term_fits condition b)) (whole_in chosen levels (λ b. term_fits chosen b))).0 f.0 in
+      let h = (and-eq-true_iff (term_has_words condition && term_has_words chosen) (term_has_words otherwise)).0 words in
+      let i = (and-eq-true_iff (term_has_words condition) (term_has_words chosen)).0 h.0 in
       let condition_below = below condition levels g.0 in
       let chosen_below = below chosen levels g.1 in
       let otherwise_below = below otherwise levels f.1 in
@@ -421,7 +417,7 @@ mutual
             (Stands-blank total 32 _ _ refl (Stands-open total (term_text condition ++ after_condition) _ first.stands)));
       }
   term_spelled total (call f ts) levels rest w fits words halts behind =
-      let g = both (is_count (arguments_of f) (count ts)) (terms_fit ts levels) fits in
+      let g = (and-eq-true_iff (is_count (arguments_of f) (count ts)) (terms_fit ts levels)).0 fits in
       let r = terms_spelled total ts levels (41 ∷ rest) (a_symbol symbol.Close w) g.1 words refl (Stands-close total rest w behind) in
       let bytes = 40 ∷ (terms_text ts ++ 41 ∷ rest) in
       let word_is : function_text f ++ bytes ≡ word_text (function_word f) ++ bytes = ap (λ l. l ++ bytes) (function_text-word f) in
@@ -436,8 +432,8 @@ mutual
       → Stops rest → Stands total rest w → TermsSpelled total (terms_text ts ++ rest) ts w
   terms_spelled total no_trees levels rest w fits words halts behind = record { placed = no_trees; same = refl; stands = behind }
   terms_spelled total (tree t ts) levels rest w fits words halts behind =
-      let f = both (whole_in t levels (λ b. term_fits t b)) (terms_fit ts levels) fits in
-      let h = both (term_has_words t) (terms_have_words ts) words in
+      let f = (and-eq-true_iff (whole_in t levels (λ b. term_fits t b)) (terms_fit ts levels)).0 fits in
+      let h = (and-eq-true_iff (term_has_words t) (terms_have_words ts)).0 words in
       let b = below t levels f.0 in
       let more = more_spelled total ts levels rest w f.1 h.1 halts behind in
       let first = term_spelled total t b.levels (more_terms ts ++ rest) (spell_more more.placed w) b.fits h.0 (more_halts ts rest halts) more.stands in
@@ -451,8 +447,8 @@ mutual
       → Stops rest → Stands total rest w → MoreSpelled total (more_terms ts ++ rest) ts w
   more_spelled total no_trees levels rest w fits words halts behind = record { placed = no_trees; same = refl; stands = behind }
   more_spelled total (tree t ts) levels rest w fits words halts behind =
-      let f = both (whole_in t levels (λ b. term_fits t b)) (terms_fit ts levels) fits in
-      let h = both (term_has_words t) (terms_have_words ts) words in
+      let f = (and-eq-true_iff (whole_in t levels (λ b. term_fits t b)) (terms_fit ts levels)).0 fits in
+      let h = (and-eq-true_iff (term_has_words t) (terms_have_words ts)).0 words in
       let b = below t levels f.0 in
       let more = more_spelled total ts levels rest w f.1 h.1 halts behind in
       let first = term_spelled total t b.levels (more_terms ts ++ rest) (spell_more more.placed w) b.fits h.0 (more_halts ts rest halts) more.stands in

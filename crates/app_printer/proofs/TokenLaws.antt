@@ -4,6 +4,7 @@ use Rattle.std.specs.Prelude.{is_some}
 use Rattle.std.specs.List.{list_all}
 use Rattle.std.specs.Str.{IsUtf8}
 use Rattle.std.proofs.lemmas.Str.{IsUtf8-append, IsUtf8-nil}
+use Rattle.std.proofs.Math.Bool.{and-eq-true_iff}
 use Rattle.app_tokens.specs.declared.token.Token.{Token}
 use Rattle.app_tokens.specs.declared.token.Kind.{Kind}
 use Rattle.app_tokens.specs.declared.token.Kind.TheVariants as kind
@@ -90,11 +91,6 @@ Stands-token total s rest k one w some utf8 piece fits behind = record {
 
 -- ---- words and names
 
-both : (a b : Bool) → (a && b) ≡ true → (a ≡ true) × (b ≡ true)
-both true true e = (refl, refl)
-both true false e = cc
-both false b e = cc
-
 word_piece-is : (s : List ℕ) (k : Kind) → kind_of_word (word_of s) ≡ k → word_piece s ≡ token (length s) k
 unfolding word_piece
 word_piece-is s k is = ap (token (length s)) is
@@ -105,7 +101,7 @@ pub Stands-spelling : (total : ℕ) (s rest : List ℕ) (k : Kind) (one : Wanted
     → Stands total rest w → Stands total (s ++ rest) (next one w)
 Stands-spelling total [] rest k one w spelt is stop fits behind = cc
 Stands-spelling total (b ∷ bs) rest k one w spelt is stop fits behind =
-    let h = both (is_letter b) (list_all is_of_word bs) spelt in
+    let h = (and-eq-true_iff (is_letter b) (list_all is_of_word bs)).0 spelt in
     Stands-token total (b ∷ bs) rest k one w (omega arith) (word_utf8 b bs h.0 h.1)
     (λ place. piece_of-word true place b bs rest h.0 h.1 stop ∙ ap Ok (word_piece-is (b ∷ bs) k is)) fits behind
 
@@ -129,7 +125,7 @@ free (Some x) e = cc
 name_spelling : (n : List ℕ) → is_name n ≡ true → (is_spelling n ≡ true) × (kind_of_word (word_of n) ≡ kind.Name)
 name_spelling [] e = cc
 name_spelling (b ∷ bs) e =
-    let h = both (is_letter b && list_all is_of_word bs) (not (is_reserved (b ∷ bs))) e in
+    let h = (and-eq-true_iff (is_letter b && list_all is_of_word bs) (not (is_reserved (b ∷ bs)))).0 e in
     (h.0, free (word_of (b ∷ bs)) (ap not (word_of-is_reserved (b ∷ bs)) ∙ h.1))
 
 -- a name where it stands

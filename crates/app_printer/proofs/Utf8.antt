@@ -6,15 +6,11 @@ use Rattle.std.specs.Str.{IsUtf8, all_scalars}
 use Rattle.std.specs.Char.{IsScalar}
 use Rattle.std.proofs.lemmas.Bool.Decides.{nat_tests}
 use Rattle.std.proofs.lemmas.Str.{IsUtf8-append, IsUtf8-encode, IsUtf8-from_ascii, IsUtf8-nil, encode_ascii}
+use Rattle.std.proofs.Math.Bool.{and-eq-true_iff}
 use Rattle.rx_value.specs.Names.{is_letter, is_digit, is_of_word}
 use Rattle.app_tokens.specs.Scan.{is_blank}
 use Rattle.app_printer.specs.Canonical.{escaped}
 use Rattle.app_printer.proofs.Escapes.{escaped-append, escaped-encode}
-
-both : (a b : Bool) → (a && b) ≡ true → (a ≡ true) × (b ≡ true)
-both true true e = (refl, refl)
-both true false e = cc
-both false b e = cc
 
 -- ---- bytes of ASCII
 
@@ -24,8 +20,8 @@ low_utf8 test low s all = IsUtf8-from_ascii s (each s all)
   where
     each : (s : List ℕ) → list_all test s ≡ true → (i : ℕ) → slice_index s i < 128
     each [] all i = omega arith
-    each (b ∷ s) all zero = low b (both (test b) (list_all test s) all).0
-    each (b ∷ s) all (suc i) = each s (both (test b) (list_all test s) all).1 i
+    each (b ∷ s) all zero = low b ((and-eq-true_iff (test b) (list_all test s)).0 all).0
+    each (b ∷ s) all (suc i) = each s ((and-eq-true_iff (test b) (list_all test s)).0 all).1 i
 
 abbrev pub is_ascii : List ℕ → Bool
 is_ascii s = list_all (λ b. nat_lt b 128) s
@@ -83,7 +79,7 @@ character_utf8 c scalar = by (nat_eq c 34) (nat_eq c 92) (nat_eq c 10) refl refl
 characters_utf8 : (cs : List ℕ) → all_scalars cs ≡ true → IsUtf8 (escaped (encode_utf8_all cs))
 characters_utf8 [] all = IsUtf8-nil
 characters_utf8 (c ∷ cs) all =
-    let h = both _ (all_scalars cs) all in
+    let h = (and-eq-true_iff _ (all_scalars cs)).0 all in
     let P : List ℕ → Type 0 = λ l. IsUtf8 l in
     subst P (sym (escaped-append (encode_utf8 c) (encode_utf8_all cs)))
     (IsUtf8-append (escaped (encode_utf8 c)) (escaped (encode_utf8_all cs)) (character_utf8 c h.0) (characters_utf8 cs h.1))

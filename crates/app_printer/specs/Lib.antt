@@ -1,4 +1,4 @@
 pub mod Canonical
-pub mod Names
 pub mod Laws
 pub mod Example
+pub mod inner

@@ -13,8 +13,6 @@ mod names;
 mod scope;
 mod statements;
 mod terms;
-#[cfg(test)]
-mod tests;
 mod words;
 
 pub use examples::worked_examples;

@@ -1,94 +1,113 @@
-//! The variables of a term, by number.
+//! The names by which a term is written.
 
-ghost use Rattle.std.specs.Prelude.{◌≡◌, [], ◌++◌, IfOk, OnOk, length, take};
-ghost use Rattle.app_tree.specs.Named.{variable_name};
-ghost use Rattle.app_tree.specs.Resolve.{inner_scope};
-ghost use Rattle.app_printer.specs.Names.{texts_of};
+ghost use Rattle.std.specs.Prelude.{◌≡◌, [], ◌++◌, IfOk, OnOk};
+ghost use Rattle.app_tree.specs.Named.{variable_name, name_of_read};
+ghost use Rattle.app_printer.specs.inner.Names.{texts_of, names_inside};
 
+use crate::names::Names;
+use app_tree::Read;
 use rx_value::{Memory, RxText};
 use std::alloc::Global;
 use std::marker::Model;
 
-/// The names of the variables in scope, from the outside to the inside. Contracts see the list of
-/// these names.
+/// The names of an app, and of the variables in scope, from the outside to the inside. Contracts see
+/// what the app's items declare and the list of the variables' names.
 #[derive(Drop)]
-pub struct Scope<'a> {
-    names: Vec<&'a RxText>,
+pub struct Scope<'n, 'a> {
+    names: &'n Names<'a>,
+    variables: Vec<&'a RxText>,
 }
 
-impl<'a> Model for Scope<'a> {
-    ghost use Rattle.std.specs.Prelude.{List, ℕ};
-    ghost use Rattle.app_printer.specs.Names.{texts_of};
+impl<'n, 'a> Model for Scope<'n, 'a> {
+    ghost use Rattle.app_printer.specs.inner.Names.{ScopeNames, texts_of};
 
-    ghost Value = { List (List ℕ) };
+    ghost Value = { ScopeNames };
 
-    ghost view = { λ scope. texts_of scope.names.items };
+    ghost view = { λ scope. record { table = scope.names.now; variables = texts_of scope.variables.items } };
 }
 
-fn push_all<'a>(texts: &'a [RxText], names: &mut Vec<&'a RxText>) -> Result<(), Memory>
-    ensures { OnOk result (texts_of names.new.items ≡ texts_of names.old.items ++ texts.now) }
+fn push_all<'a>(texts: &'a [RxText], variables: &mut Vec<&'a RxText>) -> Result<(), Memory>
+    ensures { OnOk result (texts_of variables.new.items ≡ texts_of variables.old.items ++ texts.now) }
 {
     for text in texts {
-        if names.push(text).is_err() {
+        if variables.push(text).is_err() {
             return Err(Memory);
         }
     }
     Ok(())
 }
 
-impl<'a> Scope<'a> {
+fn push_same<'a>(from: &[&'a RxText], variables: &mut Vec<&'a RxText>) -> Result<(), Memory>
+    ensures { OnOk result (texts_of variables.new.items ≡ texts_of variables.old.items
+        ++ texts_of from.now) }
+{
+    for text in from {
+        if variables.push(*text).is_err() {
+            return Err(Memory);
+        }
+    }
+    Ok(())
+}
+
+impl<'n, 'a> Scope<'n, 'a> {
     /// The scope of what has no variables.
-    pub fn new(alloc: Global) -> Scope<'a>
-        ensures { result ≡ [] }
+    pub fn new(names: &'n Names<'a>) -> Scope<'n, 'a>
+        ensures { result ≡ record { table = names.now; variables = [] } }
     {
         Scope {
-            names: Vec::new(alloc),
+            names,
+            variables: Vec::new(names.alloc()),
         }
     }
 
     /// The scope of a task's body.
-    pub fn of_parameters(alloc: Global, parameters: &'a [RxText]) -> Result<Scope<'a>, Memory>
-        ensures { IfOk result (λ scope. scope ≡ parameters.now) }
+    pub fn of_parameters(
+        names: &'n Names<'a>,
+        parameters: &'a [RxText],
+    ) -> Result<Scope<'n, 'a>, Memory>
+        ensures { IfOk result (λ scope. scope ≡ record { table = names.now; variables = parameters.now }) }
     {
-        let mut names = Vec::new(alloc);
-        push_all(parameters, &mut names)?;
-        Ok(Scope { names })
+        let mut variables = Vec::new(names.alloc());
+        push_all(parameters, &mut variables)?;
+        Ok(Scope { names, variables })
+    }
+
+    /// The scope of the last part of a fold that stands in this one.
+    pub fn inside(
+        &self,
+        accumulator: &'a RxText,
+        element: &'a RxText,
+    ) -> Result<Scope<'n, 'a>, Memory>
+        ensures { IfOk result (λ scope. scope ≡ names_inside self.now accumulator.now element.now) }
+    {
+        let mut variables = Vec::new(self.alloc());
+        push_same(self.variables.as_slice(), &mut variables)?;
+        push_same(&[accumulator, element], &mut variables)?;
+        Ok(Scope {
+            names: self.names,
+            variables,
+        })
     }
 
     /// The name of the variable of this number.
-    pub fn name(&self, number: usize) -> &'a str
-        ensures { result.now ≡ variable_name self.now number }
+    pub fn variable(&self, number: usize) -> &'a str
+        ensures { result.now ≡ variable_name self.now.variables number }
     {
-        match self.names.get(number) {
+        match self.variables.get(number) {
             Some(name) => name.as_str(),
             None => "",
         }
     }
 
-    /// Enters the last part of a fold.
-    pub fn enter(&mut self, accumulator: &'a RxText, element: &'a RxText) -> Result<(), Memory>
-        ensures { OnOk result (self.new ≡ inner_scope self.old accumulator.now element.now) }
+    /// The name of what is read.
+    pub fn read(&self, read: Read) -> &'a str
+        ensures { result.now ≡ name_of_read self.now.table read }
     {
-        if self.names.push(accumulator).is_err() {
-            return Err(Memory);
-        }
-        if self.names.push(element).is_err() {
-            return Err(Memory);
-        }
-        Ok(())
+        self.names.read(read)
     }
 
-    /// The count of variables.
-    pub fn len(&self) -> usize
-        ensures { result ≡ length self.now }
-    {
-        self.names.len()
-    }
-
-    /// Leaves what was entered since there were so many variables.
-    pub fn leave(&mut self, len: usize)
-        ensures { self.new ≡ take len self.old }
-    {
-        self.names.truncate(len);
+    /// The allocator of what is written.
+    pub fn alloc(&self) -> Global {
+        self.names.alloc()
     }
 }

@@ -12,7 +12,8 @@ use Rattle.app_tokens.specs.Kind.{word_code, symbol_code, is_word, is_symbol}
 use Rattle.app_tree.specs.declared.draft_term.Name.{Name}
 use Rattle.app_reader.specs.declared.error.ReadError.{ReadError}
 use Rattle.app_reader.specs.declared.error.ReadError.TheVariants as error
-use Rattle.app_reader.specs.State.{Reads, ◌>>=◌, choose, found, place_of, place_in, rest_of, skip, is_of_first, is_word_next, is_symbol_next, is_name, word_of, word_in, symbol_of, symbol_in, unexpected, word_at, symbol_at, name_at, name_in, number_at, text_at, turns_of}
+use Rattle.rx_value.specs.Results.{◌>>=◌, choose}
+use Rattle.app_reader.specs.State.{Reads, choose_some, place_of, place_in, rest_of, skip, is_of_first, is_word_next, is_symbol_next, is_name, word_of, word_in, symbol_of, symbol_in, unexpected, word_at, symbol_at, name_at, name_in, number_at, text_at, turns_of}
 use Rattle.app_reader.specs.Spelling.{Wanted, of_kind, at_place, named, called, IsNamed, IsWanted, Wording, ends, next, either, IsSpelledBy, a_word, a_symbol, a_number, a_name}
 
 -- ---- what is read
@@ -80,11 +81,11 @@ by_first b f g x s e h = record { rest = h.rest; gives = ap (λ b. choose b f g 
 pub by_other : {A X : Type 0} {y : A} {after : Wording} (b : Bool) (f g : X → Result (A × Tokens) ReadError) (x : X) (s : Tokens) → b ≡ false → To s (g x) y after → To s (choose b f g x) y after
 by_other b f g x s e h = record { rest = h.rest; gives = ap (λ b. choose b f g x) e ∙ h.gives; spells = h.spells; shorter = h.shorter }
 
-pub by_found : {A B : Type 0} {y : A} {after : Wording} (o : Option B) (b : B) (f : B → Reads A) (g : Reads A) (s : Tokens) → o ≡ Some b → To s (f b s) y after → To s (found o f g s) y after
-by_found o b f g s e h = record { rest = h.rest; gives = ap (λ o. found o f g s) e ∙ h.gives; spells = h.spells; shorter = h.shorter }
+pub by_found : {A B : Type 0} {y : A} {after : Wording} (o : Option B) (b : B) (f : B → Reads A) (g : Reads A) (s : Tokens) → o ≡ Some b → To s (f b s) y after → To s (choose_some o f g s) y after
+by_found o b f g s e h = record { rest = h.rest; gives = ap (λ o. choose_some o f g s) e ∙ h.gives; spells = h.spells; shorter = h.shorter }
 
-pub by_none : {A B : Type 0} {y : A} {after : Wording} (o : Option B) (f : B → Reads A) (g : Reads A) (s : Tokens) → o ≡ None → To s (g s) y after → To s (found o f g s) y after
-by_none o f g s e h = record { rest = h.rest; gives = ap (λ o. found o f g s) e ∙ h.gives; spells = h.spells; shorter = h.shorter }
+pub by_none : {A B : Type 0} {y : A} {after : Wording} (o : Option B) (f : B → Reads A) (g : Reads A) (s : Tokens) → o ≡ None → To s (g s) y after → To s (choose_some o f g s) y after
+by_none o f g s e h = record { rest = h.rest; gives = ap (λ o. choose_some o f g s) e ∙ h.gives; spells = h.spells; shorter = h.shorter }
 
 -- ---- the next token
 

@@ -1,5 +1,5 @@
 -- What begins a term: which tokens may be the first of its spelling.
-use Rattle.std.proofs.Common.{◌≡◌, pos, negsuc, Bool, true, false, ◌||◌, Result, Some, refl, ◌∙◌}
+use Rattle.std.proofs.Common.{◌≡◌, pos, negsuc, Bool, true, false, ◌||◌, Some, refl, ◌∙◌}
 use Rattle.rx_value.specs.declared.value.Value.TheVariants as v
 use Rattle.rx_value.specs.declared.operator.UnOp.TheVariants as un
 use Rattle.rx_value.specs.declared.function.Fun.TheVariants as fun
@@ -13,7 +13,6 @@ use Rattle.app_tokens.specs.declared.symbol.Symbol.TheVariants as symbol
 use Rattle.app_tokens.specs.Kind.{is_word, is_symbol}
 use Rattle.app_tree.specs.declared.term.Function.{Function}
 use Rattle.app_tree.specs.declared.term.Function.TheVariants as function
-use Rattle.app_tree.specs.declared.draft_term.Name.{Name}
 use Rattle.app_tree.specs.declared.draft_term.ReadForm.TheVariants as form
 use Rattle.app_tree.specs.DraftTree.{DraftTree, constant, group, read, variable, isolate, stop, require, fold, unary, binary, choice, call}
 use Rattle.app_reader.specs.Words.{function_of}

@@ -16,9 +16,10 @@ use Rattle.app_tree.specs.DraftTree.{DraftTree, binary}
 use Rattle.app_tree.specs.Fits.{rank_of}
 use Rattle.app_reader.specs.declared.operators.Rank.{Rank}
 use Rattle.app_reader.specs.declared.operators.Rank.TheVariants as rank
-use Rattle.app_reader.specs.State.{Reads, ◌>>=◌, choose, found, rest_of, skip, is_of_first, is_symbol_next, symbol_of, symbol_in, unexpected, turns_of}
+use Rattle.rx_value.specs.Results.{◌>>=◌, choose}
+use Rattle.app_reader.specs.State.{Reads, choose_some, rest_of, skip, is_of_first, is_symbol_next, symbol_of, symbol_in, unexpected, turns_of}
 use Rattle.app_reader.specs.Words.{operator_of}
-use Rattle.app_reader.specs.Terms.{Counted, Operand, operator_in, next_operator, is_some, is_operator_next, counted, operator_at, right_at, chain_at, once_at, unary_operand, product_at, sum_at, comparison_at, and_at, or_at}
+use Rattle.app_reader.specs.Terms.{Counted, Operand, operator_in, next_operator, is_some, is_operator_next, operator_and_rest, operator_at, right_at, chain_at, once_at, unary_operand, product_at, sum_at, comparison_at, and_at, or_at}
 use Rattle.app_reader.specs.Spelling.{of_kind, Wording, IsSpelledBy, a_symbol, operator_symbol}
 use Rattle.app_reader.proofs.Ranks.{code, operator_of-is}
 use Rattle.app_reader.proofs.Again.{may_begin, begins_less, never, symbol_is, tail_is, fewer_is, turn_on, turn_off}
@@ -162,7 +163,7 @@ right_again : (r : Rank) (operand : Operand) (o : Operator) (a b : DraftTree) (m
     → IsSpelledBy (a_symbol (operator_symbol o) more) s.tokens → (c : Comes operand b mid left (skip s) after) → right_at r operand (a, (suc mid, s)) ≡ Ok (binary o a b, (left, c.rest))
 unfolding right_at operator_at
 right_again r operand o a b mid left s more after is h c =
-    ap (λ x. found x (counted (suc mid)) unexpected s >>= λ o. operand o.1 >>= λ right. Ok (binary o.0 a right.0, right.1)) (stands r o more s is h)
+    ap (λ x. choose_some x (operator_and_rest (suc mid)) unexpected s >>= λ o. operand o.1 >>= λ right. Ok (binary o.0 a right.0, right.1)) (stands r o more s is h)
     ∙ ap (λ x. x >>= λ right. Ok (binary o a right.0, right.1)) c.gives
 
 -- a chain and one operand more

@@ -1,5 +1,6 @@
 -- The tokens that are cut from a file's bytes are such as its names, numbers and texts can be.
-use Rattle.std.proofs.Common.{◌≡◌, ℕ, zero, suc, ◌+◌, ◌-◌, ◌<◌, ◌≤◌, Bool, true, false, cond, ◌&&◌, ◌||◌, List, [], ◌∷◌, ◌++◌, length, take, drop, Result, Ok, Err, Option, Some, None, refl, sym, ◌∙◌, ap, subst, arith, length-drop}
+use Rattle.std.proofs.Common.{◌≡◌, ℕ, zero, suc, ◌+◌, ◌-◌, ◌<◌, Bool, true, false, cond, ◌&&◌, ◌||◌, List, [], ◌∷◌, ◌++◌, length, take, drop, Result, Ok, Err, Option, Some, None, refl, sym, ◌∙◌, ap, subst, arith, length-drop}
+use Rattle.std.proofs.lemmas.Bool.{and_from}
 use Rattle.std.specs.Prelude.{nat_eq, nat_lt, nat_le, take_while, ◌==◌, if◌then◌else◌}
 use Rattle.std.specs.List.{list_all}
 use Rattle.std.specs.Str.{byte, IsUtf8, is_utf8}
@@ -18,14 +19,14 @@ use Rattle.app_tokens.specs.Tokens.{Tokens}
 use Rattle.app_tokens.specs.Word.{word_of}
 use Rattle.app_tokens.specs.Symbol.{symbol_of}
 use Rattle.rx_value.specs.Names.{is_letter, is_digit, is_of_word}
-use Rattle.app_tokens.specs.Scan.{choose, ◌>>=◌, is_blank, is_of_comment, gap, token, kind_of_word, word_piece, value_after, number_piece, cut_off, is_pair, meaning_of, text_from, limited, text_piece, found_symbol, symbol_piece, piece_of, listed, tokens_from, tokens_of}
+use Rattle.rx_value.specs.Results.{choose, ◌>>=◌}
+use Rattle.app_tokens.specs.Scan.{is_blank, is_of_comment, gap, token, kind_of_word, word_piece, value_after, number_piece, cut_off, is_pair, meaning_of, text_from, limited, text_piece, found_symbol, symbol_piece, piece_of, listed, tokens_from, tokens_of}
 use Rattle.app_tokens.proofs.Digits.{take-length-take_while}
 use Rattle.app_tokens.proofs.Names.{word_of-is_reserved}
 use Rattle.app_tokens.proofs.Pieces.{IsCut-piece, tokens_from-piece, tokens_from-fails}
 use Rattle.app_tokens.proofs.Values.{text_from-utf8}
 use Rattle.app_tree.specs.Fits.{is_text_byte}
 use Rattle.app_reader.specs.Laws.{kind_fits, tokens_fit, CutTokensFit}
-use Rattle.app_reader.proofs.Got.{both}
 use Rattle.app_reader.proofs.PartsSound.{all_push}
 
 bind_ok : {A B : Type 0} (r : Result A TokenError) (f : A → Result B TokenError) (y : B) → (r >>= f) ≡ Ok y → (x : A) × (r ≡ Ok x) × (f x ≡ Ok y)
@@ -121,8 +122,8 @@ limited_fits size value quote bytes p h utf8 e = by (nat_le (length value) 65536
   where
     by : (b : Bool) → nat_le (length value) 65536 ≡ b → (if b then Ok (token size (kind.Text value)) else Err (BadByte quote)) ≡ done p → PieceFits bytes p
     by true few e =
-        let plain = both (nat_le (length value) 65536) (list_all is_text_byte value) few h in
-        piece_is bytes (token size (kind.Text value)) p e (both (nat_le (length value) 65536 && list_all is_text_byte value) (is_utf8 value) plain (is_utf8-from_IsUtf8 value utf8))
+        let plain = and_from (nat_le (length value) 65536) (list_all is_text_byte value) few h in
+        piece_is bytes (token size (kind.Text value)) p e (and_from (nat_le (length value) 65536 && list_all is_text_byte value) (is_utf8 value) plain (is_utf8-from_IsUtf8 value utf8))
     by false few e = absurd cc
 
 text_piece_fits : (whole : Bool) (quote : ℕ) (inside bytes : List ℕ) (p : Piece) → IsUtf8 inside → text_piece whole quote inside ≡ Ok p → PieceFits bytes p
@@ -195,7 +196,7 @@ piece_fits whole place (b ∷ bs) p utf8 e =
 
 listed_fits : (o : Option Kind) (place : ℕ) (spelling : List ℕ) (more : List Token) → option_fits o spelling ≡ true → tokens_fit more ≡ true → tokens_fit (listed o place spelling ++ more) ≡ true
 listed_fits None place spelling more h k = k
-listed_fits (Some x) place spelling more h k = both (kind_fits x spelling) (tokens_fit more) h k
+listed_fits (Some x) place spelling more h k = and_from (kind_fits x spelling) (tokens_fit more) h k
 
 failed : (r : Result (List Token) TokenError) (e : TokenError) (found : List Token) {P : Type 0} → r ≡ Err e → r ≡ Ok found → P
 failed r e found is was = absurd cc

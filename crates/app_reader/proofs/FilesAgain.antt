@@ -1,5 +1,6 @@
 -- Items and whole files that fit are read again from their spelling.
 use Rattle.std.proofs.Common.{◌≡◌, ℕ, suc, ℤ, ◌≤◌, Bool, true, false, ◌&&◌, List, [], ◌∷◌, length, Result, Ok, Err, refl, ap, subst, ◌∙◌, arith, inl}
+use Rattle.std.proofs.lemmas.Bool.{and_parts}
 use Rattle.std.specs.List.{list_all}
 use Rattle.rx_value.specs.declared.value.Value.{Value}
 use Rattle.app_tokens.specs.declared.token.Token.{Token}
@@ -16,14 +17,14 @@ use Rattle.app_tree.specs.DraftTree.{DraftTree, DraftTrees, no_trees, tree, Draf
 use Rattle.app_tree.specs.DraftView.{draft_trees, draft_acts}
 use Rattle.app_tree.specs.Fits.{name_fits, is_number, constant_fits, whole_fits, all_fit, block_fits, body_fits, output_fits, form_fits, item_fits, is_budget, fits}
 use Rattle.app_reader.specs.declared.error.ReadError.{ReadError}
-use Rattle.app_reader.specs.State.{◌>>=◌, choose, found, place_of, skip, is_name, is_word_next, is_symbol_next, is_name_next, is_more, is_some_in, unexpected, symbol_at, name_at, turns_of}
+use Rattle.rx_value.specs.Results.{◌>>=◌, choose}
+use Rattle.app_reader.specs.State.{choose_some, place_of, skip, is_name, is_word_next, is_symbol_next, is_name_next, is_more, is_some_in, unexpected, symbol_at, name_at, turns_of}
 use Rattle.app_reader.specs.Terms.{whole_term_at, bracketed_at, listed_at}
 use Rattle.app_reader.specs.Constants.{constant_at, priority_at}
 use Rattle.app_reader.specs.Statements.{whole_block_at, body_at}
 use Rattle.app_reader.specs.Items.{flag_at, flags_at, cache_at, keys_at, further_name_at, names_at, optional_names_at, parameters_at, start_at, input_form_at, value_form_at, task_form_at, reactive_form_at, event_form_at, output_at, text_form_at, plot_form_at, observe_form_at, on_form_at, begins_item, form_at, named_item_at, worded_item_at, item_at, further_item_at, items_at, read_at}
 use Rattle.app_reader.specs.Spelling.{Wanted, of_kind, at_place, named, Wording, ends, next, either, IsSpelledBy, first_way, AreWanted, a_symbol, a_name, spell_term, spell_terms, spell_constant, spell_block, spell_body, spell_bracketed, spell_flag, spell_flags, spell_keys, spell_more_names, spell_names, spell_start, spell_output, form_word, spell_form, spell_item, spell_items, spelling}
 use Rattle.app_reader.specs.Laws.{SpelledIsRead, CanonicalIsRead, DraftIsOne, RefusedIsNone}
-use Rattle.app_reader.proofs.Got.{and_left, and_right}
 use Rattle.app_reader.proofs.Again.{To, Again, then1, then2, then3, then4, by_first, by_other, first_is, word_is, tail_is, place_is, behind, may_begin, never, same_refl, symbol_again, name_again, all_of, Stepped, loop_again}
 use Rattle.app_reader.proofs.ChainsAgain.{Stops}
 use Rattle.app_reader.proofs.TermsAgain.{bracketed_again, list_of, trees_back, listed_again, terms_again}
@@ -150,20 +151,20 @@ unfolding task_form_at
 task_again ns t after fits s is =
     let m1 : Wording = spell_term t (a_symbol symbol.CloseBrace after) in
     then4 s (parameters_at s) (symbol_at symbol.OpenBrace) whole_term_at (symbol_at symbol.CloseBrace) (λ ns u t c. task ns t) (parameters_again ns (a_symbol symbol.OpenBrace m1) s is) (symbol_again symbol.OpenBrace m1)
-    (whole_read t (a_symbol symbol.CloseBrace after) (and_right (list_all name_fits ns) (whole_fits t) fits) refl) (symbol_again symbol.CloseBrace after)
+    (whole_read t (a_symbol symbol.CloseBrace after) ((and_parts (list_all name_fits ns) (whole_fits t) fits).1) refl) (symbol_again symbol.CloseBrace after)
 
 reactive_again : (ts : DraftTrees) (body : WrittenBody) (after : Wording) → form_fits (reactive ts body) ≡ true → Again reactive_form_at (spell_form (reactive ts body) after) (reactive ts body) after
 unfolding reactive_form_at
 reactive_again ts body after fits s is =
     subst (λ us. To s (keys_at s >>= λ keys. body_at keys.1 >>= λ body. Ok (reactive (draft_trees keys.0) body.0, body.1)) (reactive us body) after) (trees_back ts)
-    (then2 s (keys_at s) body_at (λ ts body. reactive (draft_trees ts) body) (keys_again ts (spell_body body after) (and_left (all_fit ts) (body_fits body) fits) refl s is)
-    (body_again body after (and_right (all_fit ts) (body_fits body) fits)))
+    (then2 s (keys_at s) body_at (λ ts body. reactive (draft_trees ts) body) (keys_again ts (spell_body body after) ((and_parts (all_fit ts) (body_fits body) fits).0) refl s is)
+    (body_again body after ((and_parts (all_fit ts) (body_fits body) fits).1)))
 
 event_again : (flags : Flags) (t : DraftTree) (body : WrittenBody) (after : Wording) → form_fits (event flags t body) ≡ true → Again event_form_at (spell_form (event flags t body) after) (event flags t body) after
 unfolding event_form_at
 event_again flags t body after fits s is =
     then3 s (flags_at s) (bracketed_at whole_term_at) body_at (λ flags t body. event flags t body) (flags_again flags (spell_bracketed t (spell_body body after)) refl refl s is)
-    (whole_bracketed t (spell_body body after) (and_left (whole_fits t) (body_fits body) fits)) (body_again body after (and_right (whole_fits t) (body_fits body) fits))
+    (whole_bracketed t (spell_body body after) ((and_parts (whole_fits t) (body_fits body) fits).0)) (body_again body after ((and_parts (whole_fits t) (body_fits body) fits).1))
 
 output_again : (o : WrittenOutput) (after : Wording) → output_fits o ≡ true → Again output_at (spell_output o after) o after
 unfolding output_at
@@ -171,15 +172,15 @@ output_again o after fits s is =
     let m2 : Wording = spell_body o.body after in
     let m1 : Wording = spell_keys o.keys m2 in
     let m0 : Wording = spell_flag word.WhileHidden o.while_hidden m1 in
-    let both_fit = and_left (is_number o.priority && all_fit o.keys) (body_fits o.body) fits in
+    let both_fit = (and_parts (is_number o.priority && all_fit o.keys) (body_fits o.body) fits).0 in
     let make : ℤ → Bool → List DraftTree → WrittenBody → WrittenOutput = λ z hidden ts body. record { priority = z; while_hidden = hidden; keys = draft_trees ts; body = body } in
     let with_keys : DraftTrees → WrittenOutput = λ ts. record { priority = o.priority; while_hidden = o.while_hidden; keys = ts; body = o.body } in
     subst (λ us. To {A = WrittenOutput} s (priority_at s >>= λ priority. flag_at word.WhileHidden priority.1 >>= λ hidden. keys_at hidden.1 >>= λ keys. body_at keys.1 >>= λ body. Ok (make priority.0 hidden.0 keys.0 body.0, body.1)) (with_keys us) after) (trees_back o.keys)
     (then4 s (priority_at s) (flag_at word.WhileHidden) keys_at body_at make
     (priority_again o.priority m0 (flag_without (is_word word.Priority) word.WhileHidden o.while_hidden m1 refl (keys_without (is_word word.Priority) o.keys m2 refl refl)) s is)
     (flag_again word.WhileHidden o.while_hidden m1 (keys_without (is_word word.WhileHidden) o.keys m2 refl refl))
-    (keys_again o.keys m2 (and_right (is_number o.priority) (all_fit o.keys) both_fit) refl)
-    (body_again o.body after (and_right (is_number o.priority && all_fit o.keys) (body_fits o.body) fits)))
+    (keys_again o.keys m2 ((and_parts (is_number o.priority) (all_fit o.keys) both_fit).1) refl)
+    (body_again o.body after ((and_parts (is_number o.priority && all_fit o.keys) (body_fits o.body) fits).1)))
 
 text_again : (o : WrittenOutput) (after : Wording) → output_fits o ≡ true → Again text_form_at (spell_output o after) (text o) after
 unfolding text_form_at
@@ -196,7 +197,7 @@ observe_again : (z : ℤ) (xs : DraftActs) (after : Wording) → form_fits (obse
 unfolding observe_form_at
 observe_again z xs after fits s is =
     subst (λ us. To s (priority_at s >>= λ priority. whole_block_at priority.1 >>= λ block. Ok (observe priority.0 (draft_acts block.0), block.1)) (observe z us) after) (acts_back xs)
-    (then2 s (priority_at s) whole_block_at (λ z xs. observe z (draft_acts xs)) (priority_again z (spell_block xs after) refl s is) (whole_block_again xs after (and_right (is_number z) (block_fits xs) fits)))
+    (then2 s (priority_at s) whole_block_at (λ z xs. observe z (draft_acts xs)) (priority_again z (spell_block xs after) refl s is) (whole_block_again xs after ((and_parts (is_number z) (block_fits xs) fits).1)))
 
 flags_without : (test : Kind → Bool) (flags : Flags) (after : Wording) → test (kind.Word word.IgnoreInit) ≡ false → test (kind.Word word.AllowNull) ≡ false → may_begin test after ≡ false → may_begin test (spell_flags flags after) ≡ false
 flags_without test flags after one two without =
@@ -207,11 +208,11 @@ unfolding on_form_at
 on_again z flags t xs after fits s is =
     let m1 : Wording = spell_bracketed t (spell_block xs after) in
     let m0 : Wording = spell_flags flags m1 in
-    let both_fit = and_left (is_number z && whole_fits t) (block_fits xs) fits in
+    let both_fit = (and_parts (is_number z && whole_fits t) (block_fits xs) fits).0 in
     subst (λ us. To s (priority_at s >>= λ priority. flags_at priority.1 >>= λ flags. bracketed_at whole_term_at flags.1 >>= λ e. whole_block_at e.1 >>= λ block. Ok (on priority.0 flags.0 e.0 (draft_acts block.0), block.1)) (on z flags t us) after) (acts_back xs)
     (then4 s (priority_at s) flags_at (bracketed_at whole_term_at) whole_block_at (λ z flags t xs. on z flags t (draft_acts xs))
     (priority_again z m0 (flags_without (is_word word.Priority) flags m1 refl refl refl) s is) (flags_again flags m1 refl refl)
-    (whole_bracketed t (spell_block xs after) (and_right (is_number z) (whole_fits t) both_fit)) (whole_block_again xs after (and_right (is_number z && whole_fits t) (block_fits xs) fits)))
+    (whole_bracketed t (spell_block xs after) ((and_parts (is_number z) (whole_fits t) both_fit).1)) (whole_block_again xs after ((and_parts (is_number z && whole_fits t) (block_fits xs) fits).1)))
 
 form_again : (f : WrittenForm) (after : Wording) → form_fits f ≡ true → Again (form_at (form_word f)) (spell_form f after) f after
 form_again (input k) after fits s is = input_again k after fits s is
@@ -266,7 +267,7 @@ item_again i after fits s is =
     let h = named_item_again i after fits s is in
     record {
       rest = h.rest;
-      gives = ap (λ o. found o worded_item_at unexpected s) (word_is (at_place (kind.Word w) i.place) mid s.tokens is) ∙ ap (λ b. choose b (named_item_at w) unexpected s) (form_begins i.form) ∙ h.gives;
+      gives = ap (λ o. choose_some o worded_item_at unexpected s) (word_is (at_place (kind.Word w) i.place) mid s.tokens is) ∙ ap (λ b. choose b (named_item_at w) unexpected s) (form_begins i.form) ∙ h.gives;
       spells = h.spells;
       shorter = h.shorter;
     }
@@ -297,7 +298,7 @@ items_again : (xs : List WrittenItem) → list_all item_fits xs ≡ true → Aga
 unfolding items_at
 items_again xs fits s is =
     loop_again ItemsLeft spell_item ends (λ b. is_more b.1) further_item_at
-    (λ done e es s left is. (item_step done e (all_of spell_item es ends) s (and_left (item_fits e) (list_all item_fits es) left) is, and_right (item_fits e) (list_all item_fits es) left))
+    (λ done e es s left is. (item_step done e (all_of spell_item es ends) s ((and_parts (item_fits e) (list_all item_fits es) left).0) is, (and_parts (item_fits e) (list_all item_fits es) left).1))
     (λ done s left is. is_none_more s.tokens is)
     (suc (length s.tokens)) [] xs s (omega arith) fits (subst (λ w. IsSpelledBy w s.tokens) (items_of xs ends) is)
 
@@ -308,8 +309,8 @@ items_no_budget (i ∷ xs) = form_no_budget i.form
 pub spelled_is_read : SpelledIsRead
 unfolding read_at
 spelled_is_read s draft fits is =
-    let b = budget_again draft.budget (spell_items draft.items ends) (and_left (is_budget draft.budget) (list_all item_fits draft.items) fits) (items_no_budget draft.items) s is in
-    let i = items_again draft.items (and_right (is_budget draft.budget) (list_all item_fits draft.items) fits) b.rest b.spells in
+    let b = budget_again draft.budget (spell_items draft.items ends) ((and_parts (is_budget draft.budget) (list_all item_fits draft.items) fits).0) (items_no_budget draft.items) s is in
+    let i = items_again draft.items ((and_parts (is_budget draft.budget) (list_all item_fits draft.items) fits).1) b.rest b.spells in
     ap (λ x. x >>= λ budget. items_at budget.1 >>= λ items. Ok (record { budget = budget.0; items = items.0 })) b.gives
     ∙ ap (λ x. x >>= λ items. Ok (record { budget = draft.budget; items = items.0 })) i.gives
 

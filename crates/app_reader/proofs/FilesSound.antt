@@ -1,5 +1,6 @@
 -- What is read as an item, or as a whole file, is spelled so, and fits.
 use Rattle.std.proofs.Common.{◌≡◌, ℕ, suc, ◌<◌, Bool, true, false, ◌&&◌, List, [], ◌∷◌, ◌++◌, length, Result, Ok, Err, Option, Some, None, refl, sym, ap, subst, arith}
+use Rattle.std.proofs.lemmas.Bool.{and_from}
 use Rattle.std.specs.Prelude.{IfOk}
 use Rattle.std.specs.List.{list_all}
 use Rattle.app_tokens.specs.declared.token.Token.{Token}
@@ -13,14 +14,15 @@ use Rattle.app_tree.specs.Held.{HeldDraft}
 use Rattle.app_tree.specs.DraftView.{draft_trees, draft_acts, draft_shape_of}
 use Rattle.app_tree.specs.Fits.{name_fits, is_number, constant_fits, whole_fits, all_fit, block_fits, body_fits, output_fits, form_fits, item_fits, is_budget, fits}
 use Rattle.app_reader.specs.declared.error.ReadError.{ReadError}
-use Rattle.app_reader.specs.State.{Answers, ◌>>=◌, choose, found, place_of, skip, is_word_next, is_symbol_next, is_name_next, is_more, is_some_in, next_word, unexpected, symbol_at, name_at, turns_of}
+use Rattle.rx_value.specs.Results.{◌>>=◌, choose, GivesOrMemory}
+use Rattle.app_reader.specs.State.{refusal, choose_some, place_of, skip, is_word_next, is_symbol_next, is_name_next, is_more, is_some_in, next_word, unexpected, symbol_at, name_at, turns_of}
 use Rattle.app_reader.specs.Terms.{whole_term_at, bracketed_at, listed_at}
 use Rattle.app_reader.specs.Constants.{constant_at, priority_at, budget_at}
 use Rattle.app_reader.specs.Statements.{whole_block_at, body_at}
 use Rattle.app_reader.specs.Items.{flag_at, flags_at, cache_at, keys_at, further_name_at, names_at, optional_names_at, parameters_at, start_at, input_form_at, value_form_at, task_form_at, reactive_form_at, event_form_at, output_at, text_form_at, plot_form_at, observe_form_at, on_form_at, begins_item, form_at, named_item_at, worded_item_at, item_at, further_item_at, items_at, read_at}
 use Rattle.app_reader.specs.Spelling.{Wording, ends, IsSpelledBy, a_word, a_word_at, a_symbol, a_name, spell_flag, spell_flags, spell_keys, spell_more_names, spell_names, spell_start, spell_output, form_word, spell_form, spell_item, spell_items, spelling}
 use Rattle.app_reader.specs.Laws.{tokens_fit, ReadIsSpelled}
-use Rattle.app_reader.proofs.Got.{both, bind_ok, ok_is, Got, SoundAt, IsSound, already, refused, seq1, seq2, seq3, seq4, weaker, bind_sound, choose_sound, found_sound, symbol_stands, word_stands, behind_symbol, behind_word, behind_word_there, fewer_word, fit_behind_word, stays, Any, symbol_sound, name_sound, loop_ends, collected, pushed}
+use Rattle.app_reader.proofs.Got.{bind_ok, ok_is, Got, SoundAt, IsSound, already, refused, seq1, seq2, seq3, seq4, weaker, bind_sound, choose_sound, found_sound, symbol_stands, word_stands, behind_symbol, behind_word, behind_word_there, fewer_word, fit_behind_word, stays, Any, symbol_sound, name_sound, loop_ends, collected, pushed}
 use Rattle.app_reader.proofs.TermsSound.{IsMany, many_push, spell_list, bracketed_sound, listed_sound, term_sound}
 use Rattle.app_reader.proofs.PartsSound.{all_push, constant_sound, priority_sound, budget_sound, IsTerm, whole_term_sound, body_sound, block_sound}
 
@@ -83,7 +85,7 @@ names_sound s =
     (λ a g. collected s (λ b. is_symbol_next symbol.Comma b.1) further_name_at (suc (length a.1.tokens)) (a.0 ∷ [], a.1)
     (λ b holds got. pushed s b (name_at (skip b.1)) got (behind_symbol symbol.Comma b.1 (name_at (skip b.1)) (symbol_stands symbol.Comma b.1 holds) (name_sound (skip b.1)))
     (λ n p q. (many_push b.0 n, all_push name_fits b.0 n p.1 q)) (λ n rest p. names_push b.0 n rest p.0))
-    (seq1 s (Ok a) (λ n. n ∷ []) (already s a g) (λ n p. (tt, both (name_fits n) true p refl)) (λ n rest p h. h)))
+    (seq1 s (Ok a) (λ n. n ∷ []) (already s a g) (λ n p. (tt, and_from (name_fits n) true p refl)) (λ n rest p h. h)))
 
 optional_names_sound : IsSound spell_names AreWords optional_names_at
 unfolding optional_names_at
@@ -122,26 +124,26 @@ task_sound : IsSound spell_form (IsForm word.Task) task_form_at
 unfolding task_form_at
 task_sound s =
     seq4 s (parameters_at s) (symbol_at symbol.OpenBrace) whole_term_at (symbol_at symbol.CloseBrace) (λ ns u t c. task ns t) (parameters_sound s) (symbol_sound symbol.OpenBrace) whole_term_sound (symbol_sound symbol.CloseBrace)
-    (λ ns u t c p q r o. (refl, both (list_all name_fits ns) (whole_fits t) p r)) (λ ns u t c rest p h. h)
+    (λ ns u t c p q r o. (refl, and_from (list_all name_fits ns) (whole_fits t) p r)) (λ ns u t c rest p h. h)
 
 reactive_sound : IsSound spell_form (IsForm word.Reactive) reactive_form_at
 unfolding reactive_form_at
 reactive_sound s =
     seq2 s (keys_at s) body_at (λ ts body. reactive (draft_trees ts) body) (keys_sound s) body_sound
-    (λ ts body p q. (refl, both (all_fit (draft_trees ts)) (body_fits body) p q)) (λ ts body rest p q h. h)
+    (λ ts body p q. (refl, and_from (all_fit (draft_trees ts)) (body_fits body) p q)) (λ ts body rest p q h. h)
 
 event_sound : IsSound spell_form (IsForm word.Event) event_form_at
 unfolding event_form_at
 event_sound s =
     seq3 s (flags_at s) (bracketed_at whole_term_at) body_at (λ flags t body. event flags t body) (flags_sound s) (bracketed_sound whole_term_at IsTerm whole_term_sound) body_sound
-    (λ flags t body p q r. (refl, both (whole_fits t) (body_fits body) q r)) (λ flags t body rest p q h. h)
+    (λ flags t body p q r. (refl, and_from (whole_fits t) (body_fits body) q r)) (λ flags t body rest p q h. h)
 
 output_sound : IsSound spell_output (λ o. output_fits o ≡ true) output_at
 unfolding output_at
 output_sound s =
     seq4 s (priority_at s) (flag_at word.WhileHidden) keys_at body_at (λ z hidden ts body. record { priority = z; while_hidden = hidden; keys = draft_trees ts; body = body })
     (priority_sound s) (flag_sound word.WhileHidden) keys_sound body_sound
-    (λ z hidden ts body p q r o. both (is_number z && all_fit (draft_trees ts)) (body_fits body) (both (is_number z) (all_fit (draft_trees ts)) p r) o) (λ z hidden ts body rest p h. h)
+    (λ z hidden ts body p q r o. and_from (is_number z && all_fit (draft_trees ts)) (body_fits body) (and_from (is_number z) (all_fit (draft_trees ts)) p r) o) (λ z hidden ts body rest p h. h)
 
 text_sound : IsSound spell_form (IsForm word.Text) text_form_at
 unfolding text_form_at
@@ -155,13 +157,13 @@ observe_sound : IsSound spell_form (IsForm word.Observe) observe_form_at
 unfolding observe_form_at
 observe_sound s =
     seq2 s (priority_at s) whole_block_at (λ z xs. observe z (draft_acts xs)) (priority_sound s) (block_sound 64)
-    (λ z xs p q. (refl, both (is_number z) (block_fits (draft_acts xs)) p q)) (λ z xs rest p q h. h)
+    (λ z xs p q. (refl, and_from (is_number z) (block_fits (draft_acts xs)) p q)) (λ z xs rest p q h. h)
 
 on_sound : IsSound spell_form (IsForm word.On) on_form_at
 unfolding on_form_at
 on_sound s =
     seq4 s (priority_at s) flags_at (bracketed_at whole_term_at) whole_block_at (λ z flags t xs. on z flags t (draft_acts xs)) (priority_sound s) flags_sound (bracketed_sound whole_term_at IsTerm whole_term_sound) (block_sound 64)
-    (λ z flags t xs p q r o. (refl, both (is_number z && whole_fits t) (block_fits (draft_acts xs)) (both (is_number z) (whole_fits t) p r) o)) (λ z flags t xs rest p h. h)
+    (λ z flags t xs p q r o. (refl, and_from (is_number z && whole_fits t) (block_fits (draft_acts xs)) (and_from (is_number z) (whole_fits t) p r) o)) (λ z flags t xs rest p h. h)
 
 form_sound : (w : Word) → IsSound spell_form (IsForm w) (form_at w)
 form_sound word.Input s = input_sound s
@@ -218,7 +220,7 @@ item_takes s good y e = by (next_word s) refl e
     worded w is true e = named w is e
     worded w is false e = absurd cc
 
-    by : (o : Option Word) → next_word s ≡ o → found o worded_item_at unexpected s ≡ Ok y → length y.1.tokens < length s.tokens
+    by : (o : Option Word) → next_word s ≡ o → choose_some o worded_item_at unexpected s ≡ Ok y → length y.1.tokens < length s.tokens
     by (Some w) is e = worded w is (begins_item w) e
     by None is e = absurd cc
 
@@ -263,9 +265,9 @@ read_is_spelled s draft good e =
     let k = items_sound a.0.1 i.0 b.good i.1 in
     let made : DraftShape = record { budget = a.0.0; items = i.0.0 } in
     subst (λ (d : DraftShape). (fits d ≡ true) × IsSpelledBy (spelling d) s.tokens) (ok_is made draft i.2)
-    (both (is_budget a.0.0) (list_all item_fits i.0.0) b.holds k.1, b.spells (spell_items i.0.0 ends) k.0)
+    (and_from (is_budget a.0.0) (list_all item_fits i.0.0) b.holds k.1, b.spells (spell_items i.0.0 ends) k.0)
 
 -- what the code answers fits
-pub read_fits : (s : Tokens) (result : Result HeldDraft ReadError) → Answers draft_shape_of result (read_at s) → tokens_fit s.tokens ≡ true → IfOk result (λ draft. fits (draft_shape_of draft) ≡ true)
+pub read_fits : (s : Tokens) (result : Result HeldDraft ReadError) → GivesOrMemory draft_shape_of refusal result (read_at s) → tokens_fit s.tokens ≡ true → IfOk result (λ draft. fits (draft_shape_of draft) ≡ true)
 read_fits s (Ok draft) h good = (read_is_spelled s (draft_shape_of draft) good h).0
 read_fits s (Err e) h good = tt

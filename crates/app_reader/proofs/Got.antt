@@ -1,5 +1,6 @@
 -- What was read is spelled so: single tokens, and one part after another.
-use Rattle.std.proofs.Common.{◌≡◌, ℕ, zero, suc, ◌<◌, ◌≤◌, Bool, true, false, ◌&&◌, List, [], ◌∷◌, ◌++◌, length, Result, Ok, Err, Option, Some, None, refl, sym, ap, subst, ◌∙◌, arith}
+use Rattle.std.proofs.Common.{◌≡◌, ℕ, zero, suc, ◌<◌, ◌≤◌, Bool, true, false, List, [], ◌∷◌, ◌++◌, length, Result, Ok, Err, Option, Some, None, refl, sym, ap, subst, ◌∙◌, arith}
+use Rattle.std.proofs.lemmas.Bool.{and_parts}
 use Rattle.app_tokens.specs.declared.token.Token.{Token}
 use Rattle.app_tokens.specs.declared.token.Kind.{Kind}
 use Rattle.app_tokens.specs.declared.token.Kind.TheVariants as kind
@@ -11,23 +12,12 @@ use Rattle.app_tokens.proofs.KindTests.{is_word-is, is_symbol-is}
 use Rattle.app_tree.specs.declared.draft_term.Name.{Name}
 use Rattle.app_tree.specs.Fits.{is_natural, is_text, name_fits}
 use Rattle.app_reader.specs.declared.error.ReadError.{ReadError}
-use Rattle.app_reader.specs.State.{Reads, ◌>>=◌, choose, found, place_of, rest_of, skip, is_of_first, is_word_next, is_symbol_next, word_of, word_in, next_word, symbol_of, symbol_in, next_symbol, unexpected, word_at, symbol_at, name_at, name_in, number_at, number_in, number_of, text_at, text_in, text_of, turns_of}
+use Rattle.rx_value.specs.Results.{◌>>=◌, choose}
+use Rattle.app_reader.specs.State.{Reads, choose_some, place_of, rest_of, skip, is_of_first, is_word_next, is_symbol_next, word_of, word_in, next_word, symbol_of, symbol_in, next_symbol, unexpected, word_at, symbol_at, name_at, name_in, number_at, number_in, number_and_rest, text_at, text_in, text_and_rest, turns_of}
 use Rattle.app_reader.specs.Spelling.{of_kind, at_place, Wording, next, IsSpelledBy, a_word, a_word_at, a_symbol, a_number, a_name}
 use Rattle.app_reader.specs.Laws.{token_fits, tokens_fit}
 
 -- ---- generalities
-
-pub both : (a b : Bool) → a ≡ true → b ≡ true → (a && b) ≡ true
-both true b p q = q
-both false b p q = absurd cc
-
-pub and_left : (a b : Bool) → (a && b) ≡ true → a ≡ true
-and_left true b p = refl
-and_left false b p = absurd cc
-
-pub and_right : (a b : Bool) → (a && b) ≡ true → b ≡ true
-and_right true b p = p
-and_right false b p = absurd cc
 
 -- the value of a part that was not refused
 pub bind_ok : {A B : Type 0} (r : Result A ReadError) (f : A → Result B ReadError) (y : B) → (r >>= f) ≡ Ok y → (x : A) × (r ≡ Ok x) × (f x ≡ Ok y)
@@ -198,7 +188,7 @@ choose_from true f g x s h k = h refl
 choose_from false f g x s h k = k refl
 
 pub found_sound : {A B : Type 0} {S : A → Wording → Wording} {P : A → Type 0} (o : Option B) (f : B → Reads A) (g : Reads A) (s : Tokens)
-    → ((x : B) → o ≡ Some x → SoundAt S P s (f x s)) → (o ≡ None → SoundAt S P s (g s)) → SoundAt S P s (found o f g s)
+    → ((x : B) → o ≡ Some x → SoundAt S P s (f x s)) → (o ≡ None → SoundAt S P s (g s)) → SoundAt S P s (choose_some o f g s)
 found_sound (Some x) f g s h k = h x refl
 found_sound None f g s h k = k refl
 
@@ -243,7 +233,7 @@ led : (k : Kind) (t : Token) (ts : List Token) (end : ℕ) → t.kind ≡ k → 
 led k t ts end is = record {
   leads = λ rest left. (is, left);
   leads_there = λ rest left. ((is, refl), left);
-  good = λ fit. and_right (token_fits t) (tokens_fit ts) fit;
+  good = λ fit. (and_parts (token_fits t) (tokens_fit ts) fit).1;
   shorter = refl;
 }
 
@@ -347,15 +337,15 @@ pub number_sound : IsSound a_number (λ n. is_natural n ≡ true) number_at
 unfolding number_at
 number_sound s = record { so = λ good y e. more s.tokens good y e }
   where
-    by : (k : Kind) (place : ℕ) (spelling : List ℕ) (ts : List Token) → tokens_fit (record { kind = k; place = place; spelling = spelling } ∷ ts) ≡ true → (y : ℕ × Tokens) → number_of k place ts s.end ≡ Ok y
+    by : (k : Kind) (place : ℕ) (spelling : List ℕ) (ts : List Token) → tokens_fit (record { kind = k; place = place; spelling = spelling } ∷ ts) ≡ true → (y : ℕ × Tokens) → number_and_rest k place ts s.end ≡ Ok y
         → Got a_number (λ n. is_natural n ≡ true) (record { tokens = record { kind = k; place = place; spelling = spelling } ∷ ts; end = s.end }) y
     by (kind.Number n) place spelling ts good y e =
         let now : Tokens = record { tokens = record { kind = kind.Number n; place = place; spelling = spelling } ∷ ts; end = s.end } in
         let made : ℕ × Tokens = (n, record { tokens = ts; end = s.end }) in
         subst (Got a_number (λ n. is_natural n ≡ true) now) (ok_is made y e) (record {
           spells = λ rest left. (refl, left);
-          holds = and_left (is_natural n) (tokens_fit ts) good;
-          good = and_right (is_natural n) (tokens_fit ts) good;
+          holds = (and_parts (is_natural n) (tokens_fit ts) good).0;
+          good = (and_parts (is_natural n) (tokens_fit ts) good).1;
           shorter = omega arith;
         })
     by kind.Name place spelling ts good y e = absurd cc
@@ -374,15 +364,15 @@ pub text_sound : IsSound a_text (λ bytes. is_text bytes ≡ true) text_at
 unfolding text_at
 text_sound s = record { so = λ good y e. more s.tokens good y e }
   where
-    by : (k : Kind) (place : ℕ) (spelling : List ℕ) (ts : List Token) → tokens_fit (record { kind = k; place = place; spelling = spelling } ∷ ts) ≡ true → (y : List ℕ × Tokens) → text_of k place ts s.end ≡ Ok y
+    by : (k : Kind) (place : ℕ) (spelling : List ℕ) (ts : List Token) → tokens_fit (record { kind = k; place = place; spelling = spelling } ∷ ts) ≡ true → (y : List ℕ × Tokens) → text_and_rest k place ts s.end ≡ Ok y
         → Got a_text (λ bytes. is_text bytes ≡ true) (record { tokens = record { kind = k; place = place; spelling = spelling } ∷ ts; end = s.end }) y
     by (kind.Text bytes) place spelling ts good y e =
         let now : Tokens = record { tokens = record { kind = kind.Text bytes; place = place; spelling = spelling } ∷ ts; end = s.end } in
         let made : List ℕ × Tokens = (bytes, record { tokens = ts; end = s.end }) in
         subst (Got a_text (λ bytes. is_text bytes ≡ true) now) (ok_is made y e) (record {
           spells = λ rest left. (refl, left);
-          holds = and_left (is_text bytes) (tokens_fit ts) good;
-          good = and_right (is_text bytes) (tokens_fit ts) good;
+          holds = (and_parts (is_text bytes) (tokens_fit ts) good).0;
+          good = (and_parts (is_text bytes) (tokens_fit ts) good).1;
           shorter = omega arith;
         })
     by kind.Name place spelling ts good y e = absurd cc
@@ -409,8 +399,8 @@ name_sound s = record { so = λ good y e. more s.tokens good y e }
         let made : Name × Tokens = (record { text = spelling; place = place }, record { tokens = ts; end = s.end }) in
         subst (Got a_name IsWord now) (ok_is made y e) (record {
           spells = λ rest left. (record { is_name = refl; is_spelled = refl; is_there = refl }, left);
-          holds = and_left (name_fits made.0) (tokens_fit ts) good;
-          good = and_right (name_fits made.0) (tokens_fit ts) good;
+          holds = (and_parts (name_fits made.0) (tokens_fit ts) good).0;
+          good = (and_parts (name_fits made.0) (tokens_fit ts) good).1;
           shorter = omega arith;
         })
     by (kind.Number n) place spelling ts good y e = absurd cc

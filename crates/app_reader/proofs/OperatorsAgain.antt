@@ -1,5 +1,6 @@
 -- How a term is read again, by where it stands among operators.
 use Rattle.std.proofs.Common.{◌≡◌, ℕ, zero, suc, ◌+◌, ◌-◌, ◌≤◌, Bool, true, false, ◌&&◌, Ok, Some, refl, sym, ap, subst, ◌∙◌, arith, inl, inr, ◌⊎◌}
+use Rattle.std.proofs.lemmas.Bool.{and_parts}
 use Rattle.std.specs.Prelude.{nat_eq, nat_le, nat_lt}
 use Rattle.rx_value.specs.declared.operator.BinOp.TheVariants as bin
 use Rattle.app_tokens.specs.declared.word.Word.TheVariants as word
@@ -11,12 +12,12 @@ use Rattle.app_tree.specs.DraftTree.{DraftTree, binary}
 use Rattle.app_tree.specs.Fits.{rank_of, hold_of, left_of, are_operands, operators, term_fits}
 use Rattle.app_reader.specs.declared.operators.Rank.{Rank}
 use Rattle.app_reader.specs.declared.operators.Rank.TheVariants as rank
-use Rattle.app_reader.specs.State.{Reads, ◌>>=◌, is_word_next}
+use Rattle.rx_value.specs.Results.{◌>>=◌}
+use Rattle.app_reader.specs.State.{Reads, is_word_next}
 use Rattle.app_reader.specs.Words.{operator_of}
 use Rattle.app_reader.specs.Terms.{unary_in, unary_operand, operation_at, choice_at, term_in, term_at, unary_at}
 use Rattle.app_reader.specs.Spelling.{Wording, IsSpelledBy, a_symbol, operator_symbol, spell_term}
 use Rattle.app_reader.proofs.Ranks.{code, no_operators}
-use Rattle.app_reader.proofs.Got.{and_left, and_right}
 use Rattle.app_reader.proofs.TermsSound.{Whole}
 use Rattle.app_reader.proofs.Again.{To, by_other, may_begin, never}
 use Rattle.app_reader.proofs.ChainsAgain.{Stops, stops_more, symbol_rank-is, Comes, Starts, starts_alone, comes_of, starts_more, once_more, reader, down}
@@ -161,8 +162,8 @@ whole_of : (t : DraftTree) (levels : ℕ) (s : Tokens) (after : Wording) → Who
 unfolding term_at term_in operation_at
 whole_of t zero s after fits no_if reads is = absurd cc
 whole_of t (suc m) s after fits no_if reads is =
-    let few : operators t ≤ 64 = le_of (operators t) 64 (and_left (nat_le (operators t) 64) (term_fits t m) fits) in
-    let fit = and_right (nat_le (operators t) 64) (term_fits t m) fits in
+    let few : operators t ≤ 64 = le_of (operators t) 64 ((and_parts (nat_le (operators t) 64) (term_fits t m) fits).0) in
+    let fit = (and_parts (nat_le (operators t) 64) (term_fits t m) fits).1 in
     let room : 64 ≡ 64 - operators t + operators t = omega (arith, few) in
     let c = reads m 64 (64 - operators t) fit room in
     by_other (is_word_next word.If s) (choice_at (term_at m)) (operation_at (unary_in (term_at m) (unary_at m))) s s (never (is_word word.If) (spell_term t after) s.tokens (no_if m fit) is)
@@ -206,19 +207,19 @@ binary_facts o a b fa fb = record {
     r = the_rank o
 
     fits_a : (levels : ℕ) → Fit levels (binary o a b) → Fit levels a
-    fits_a levels f = and_right (are_operands o a b) (term_fits a levels) (and_left (are_operands o a b && term_fits a levels) (term_fits b levels) f)
+    fits_a levels f = (and_parts (are_operands o a b) (term_fits a levels) ((and_parts (are_operands o a b && term_fits a levels) (term_fits b levels) f).0)).1
 
     fits_b : (levels : ℕ) → Fit levels (binary o a b) → Fit levels b
-    fits_b levels f = and_right (are_operands o a b && term_fits a levels) (term_fits b levels) f
+    fits_b levels f = (and_parts (are_operands o a b && term_fits a levels) (term_fits b levels) f).1
 
     holds_both : (levels : ℕ) → Fit levels (binary o a b) → are_operands o a b ≡ true
-    holds_both levels f = and_left (are_operands o a b) (term_fits a levels) (and_left (are_operands o a b && term_fits a levels) (term_fits b levels) f)
+    holds_both levels f = (and_parts (are_operands o a b) (term_fits a levels) ((and_parts (are_operands o a b && term_fits a levels) (term_fits b levels) f).0)).0
 
     holds_a : (levels : ℕ) → Fit levels (binary o a b) → left_of (rank_of o) ≤ hold_of a
-    holds_a levels f = le_of (left_of (rank_of o)) (hold_of a) (and_left (nat_le (left_of (rank_of o)) (hold_of a)) (nat_lt (rank_of o) (hold_of b)) (holds_both levels f))
+    holds_a levels f = le_of (left_of (rank_of o)) (hold_of a) ((and_parts (nat_le (left_of (rank_of o)) (hold_of a)) (nat_lt (rank_of o) (hold_of b)) (holds_both levels f)).0)
 
     holds_b : (levels : ℕ) → Fit levels (binary o a b) → suc (rank_of o) ≤ hold_of b
-    holds_b levels f = lt_of (rank_of o) (hold_of b) (and_right (nat_le (left_of (rank_of o)) (hold_of a)) (nat_lt (rank_of o) (hold_of b)) (holds_both levels f))
+    holds_b levels f = lt_of (rank_of o) (hold_of b) ((and_parts (nat_le (left_of (rank_of o)) (hold_of a)) (nat_lt (rank_of o) (hold_of b)) (holds_both levels f)).1)
 
     no_if : (levels : ℕ) (rest : Wording) → Fit levels (binary o a b) → may_begin (is_word word.If) (spell_term (binary o a b) rest) ≡ false
     no_if levels rest f = fa.not_if levels (a_symbol (operator_symbol o) (spell_term b rest)) (fits_a levels f) (omega (arith, holds_a levels f, ap left_of (code_is o), code_left r, code_some r))

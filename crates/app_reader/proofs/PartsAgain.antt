@@ -1,5 +1,6 @@
 -- Constants, priorities, writes, statements, blocks and bodies that fit are read again from their spelling.
 use Rattle.std.proofs.Common.{◌≡◌, ℕ, zero, suc, pos, negsuc, neg_ℤ, ℤ, ◌+◌, ◌<◌, ◌≤◌, Bool, true, false, ◌&&◌, ◌||◌, List, [], ◌∷◌, ◌++◌, length, Result, Ok, Some, None, refl, sym, ap, subst, ◌∙◌, arith, length-append, inl, inr}
+use Rattle.std.proofs.lemmas.Bool.{and_parts}
 use Rattle.std.specs.Prelude.{nat_eq, nat_le, if◌then◌else◌}
 use Rattle.std.specs.List.{list_all}
 use Rattle.rx_value.specs.declared.value.Value.{Value}
@@ -17,12 +18,12 @@ use Rattle.app_tree.specs.DraftTree.{DraftTree, DraftTrees, DraftDeed, set, invo
 use Rattle.app_tree.specs.DraftView.{draft_trees, draft_acts}
 use Rattle.app_tree.specs.Fits.{is_number, are_numbers, constant_fits, deeper, whole_fits, all_fit, deed_fits, write_fits, act_fits, acts_fit, block_fits, body_fits, is_budget}
 use Rattle.app_reader.specs.declared.error.ReadError.{ReadError}
-use Rattle.app_reader.specs.State.{Reads, ◌>>=◌, choose, place_of, rest_of, skip, is_of_first, is_text, is_word_next, is_symbol_next, is_text_next, word_of, word_in, unexpected, word_at, symbol_at, name_at, number_at, text_at, turns_of}
+use Rattle.rx_value.specs.Results.{◌>>=◌, choose}
+use Rattle.app_reader.specs.State.{Reads, place_of, rest_of, skip, is_of_first, is_text, is_word_next, is_symbol_next, is_text_next, word_of, word_in, unexpected, word_at, symbol_at, name_at, number_at, text_at, turns_of}
 use Rattle.app_reader.specs.Terms.{truth_value, truth_at, word_constant_at, whole_term_at, optional_at}
 use Rattle.app_reader.specs.Constants.{signed_at, behind_minus, further_number_at, numbers_at, optional_numbers_at, list_at, is_constant_word_next, constant_at, priority_at, limit_at, budget_at}
 use Rattle.app_reader.specs.Statements.{assigned_at, set_at, update_at, sent_at, invoke_at, freeze_at, deed_at, write_at, begins_write, begins_statement, is_word_of, is_write_next, is_statement_next, do_at, branch_at, statement_at, further_statement_at, statements_at, block_in, block_at, further_write_at, writes_at, body_at}
 use Rattle.app_reader.specs.Spelling.{Wanted, of_kind, at_place, Wording, next, either, IsSpelledBy, a_word, a_word_at, a_symbol, a_number, spell_term, spell_terms, spell_number, spell_more_numbers, spell_numbers, spell_constant, written_priority, spell_priority, written_budget, spell_budget, deed_word, spell_assigned, spell_deed, spell_write, spell_writes, spell_act, spell_acts, spell_block, spell_body, spell_bracketed}
-use Rattle.app_reader.proofs.Got.{and_left, and_right}
 use Rattle.app_reader.proofs.Again.{To, Again, then1, then2, then3, then4, by_first, by_other, kind_of, first_is, tail_is, fewer_is, place_is, behind, may_begin, never, symbol_again, word_again, number_again, text_again, name_again, all_of, Stepped, loop_again}
 use Rattle.app_reader.proofs.Beginnings.{is_term_word, begins_term, begins_no}
 use Rattle.app_reader.proofs.TermsAgain.{Readable, bracketed_again, list_of, trees_back, optional_again, term_again, terms_again}
@@ -113,7 +114,7 @@ optional_numbers_again [] after fits s is =
 optional_numbers_again (z ∷ zs) after fits s is =
     by_other (is_symbol_next symbol.Close s) (λ t. Ok ([], t)) numbers_at s s
     (never (is_symbol symbol.Close) (spell_numbers (z ∷ zs) (a_symbol symbol.Close after)) s.tokens (number_no_close z (spell_more_numbers zs (a_symbol symbol.Close after))) is)
-    (numbers_again z zs after (le_of (length (z ∷ zs)) 1000 (and_left (nat_le (length (z ∷ zs)) 1000) (list_all is_number (z ∷ zs)) fits)) s is)
+    (numbers_again z zs after (le_of (length (z ∷ zs)) 1000 ((and_parts (nat_le (length (z ∷ zs)) 1000) (list_all is_number (z ∷ zs)) fits).0)) s is)
 
 list_again : (zs : List ℤ) (after : Wording) → are_numbers zs ≡ true → Again list_at (spell_constant (v.Ints zs) after) (v.Ints zs) after
 unfolding list_at
@@ -389,7 +390,7 @@ writes_again : (ws : List WrittenDeed) (t : DraftTree) (after : Wording) → lis
 unfolding writes_at
 writes_again ws t after fits s is =
     loop_again WritesLeft spell_write (spell_term t after) (λ b. is_write_next b.1) further_write_at
-    (λ done e es s left is. (write_step done e (all_of spell_write es (spell_term t after)) s (and_left (write_fits e) (list_all write_fits es) left) is, and_right (write_fits e) (list_all write_fits es) left))
+    (λ done e es s left is. (write_step done e (all_of spell_write es (spell_term t after)) s ((and_parts (write_fits e) (list_all write_fits es) left).0) is, (and_parts (write_fits e) (list_all write_fits es) left).1))
     (λ done s left is. write_next s.tokens ∙ never starts_write (spell_term t after) s.tokens (begins_no starts_write term_no_write t after) is)
     (suc (length s.tokens)) [] ws s (omega arith) fits (subst (λ w. IsSpelledBy w s.tokens) (writes_of ws (spell_term t after)) is)
 
@@ -401,8 +402,8 @@ body_again body after fits s is =
     let m1 : Wording = spell_term t (a_symbol symbol.CloseBrace after) in
     let make : Unit {0} → List WrittenDeed → DraftTree → Unit {0} → WrittenBody = λ u ws t c. record { writes = ws; term = t } in
     then4 s (symbol_at symbol.OpenBrace s) writes_at whole_term_at (symbol_at symbol.CloseBrace) make
-    (symbol_again symbol.OpenBrace (spell_writes ws m1) s is) (writes_again ws t (a_symbol symbol.CloseBrace after) (and_left (list_all write_fits ws) (whole_fits t) fits))
-    (λ s is. whole_again t (and_right (list_all write_fits ws) (whole_fits t) fits) s (a_symbol symbol.CloseBrace after) refl is) (symbol_again symbol.CloseBrace after)
+    (symbol_again symbol.OpenBrace (spell_writes ws m1) s is) (writes_again ws t (a_symbol symbol.CloseBrace after) ((and_parts (list_all write_fits ws) (whole_fits t) fits).0))
+    (λ s is. whole_again t ((and_parts (list_all write_fits ws) (whole_fits t) fits).1) s (a_symbol symbol.CloseBrace after) refl is) (symbol_again symbol.CloseBrace after)
 
 -- ---- statements and blocks
 
@@ -601,17 +602,17 @@ mutual
   act_read (perform t) levels fits = perform_act levels t fits
   act_read (branch t xs) levels fits =
       let inner : Bool = deeper levels (λ below. acts_fit xs below) in
-      branch_act levels t xs (and_left (whole_fits t) inner fits) (block_read levels xs (and_right (whole_fits t) inner fits) (λ m f. acts_read xs m f))
+      branch_act levels t xs ((and_parts (whole_fits t) inner fits).0) (block_read levels xs ((and_parts (whole_fits t) inner fits).1) (λ m f. acts_read xs m f))
   act_read (branch_else t xs ys) levels fits =
       let inner : Bool = deeper levels (λ below. acts_fit xs below) in
       let other : Bool = deeper levels (λ below. acts_fit ys below) in
-      let both_fit = and_left (whole_fits t && inner) other fits in
-      branch_else_act levels t xs ys (and_left (whole_fits t) inner both_fit) (block_read levels xs (and_right (whole_fits t) inner both_fit) (λ m f. acts_read xs m f))
-      (block_read levels ys (and_right (whole_fits t && inner) other fits) (λ m f. acts_read ys m f))
+      let both_fit = (and_parts (whole_fits t && inner) other fits).0 in
+      branch_else_act levels t xs ys ((and_parts (whole_fits t) inner both_fit).0) (block_read levels xs ((and_parts (whole_fits t) inner both_fit).1) (λ m f. acts_read xs m f))
+      (block_read levels ys ((and_parts (whole_fits t && inner) other fits).1) (λ m f. acts_read ys m f))
 
   acts_read : (xs : DraftActs) (levels : ℕ) → acts_fit xs levels ≡ true → AllActsRead levels (act_list xs)
   acts_read no_acts levels fits = tt
-  acts_read (act a more) levels fits = (act_read a levels (and_left (act_fits a levels) (acts_fit more levels) fits), acts_read more levels (and_right (act_fits a levels) (acts_fit more levels) fits))
+  acts_read (act a more) levels fits = (act_read a levels ((and_parts (act_fits a levels) (acts_fit more levels) fits).0), acts_read more levels ((and_parts (act_fits a levels) (acts_fit more levels) fits).1))
 
 pub block_again : (xs : DraftActs) → block_fits xs ≡ true → BlockRead 64 xs
 block_again xs fits = block_read 64 xs fits (λ m f. acts_read xs m f)

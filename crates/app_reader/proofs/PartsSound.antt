@@ -1,5 +1,6 @@
 -- What is read as a constant, a priority, a budget, a write, a statement, a block or a body is spelled so, and fits.
 use Rattle.std.proofs.Common.{◌≡◌, ℕ, zero, suc, pos, negsuc, neg_ℤ, ℤ, ◌≤◌, Bool, true, false, ◌&&◌, List, [], ◌∷◌, ◌++◌, length, Ok, Option, Some, None, refl, ap, subst, arith, length-append, inl, inr}
+use Rattle.std.proofs.lemmas.Bool.{and_from, and_parts}
 use Rattle.std.specs.Prelude.{nat_eq, nat_le, if◌then◌else◌}
 use Rattle.std.specs.List.{list_all}
 use Rattle.rx_value.specs.declared.value.Value.{Value}
@@ -12,12 +13,13 @@ use Rattle.app_tree.specs.declared.draft_term.Name.{Name}
 use Rattle.app_tree.specs.DraftTree.{DraftTree, DraftDeed, set, invoke, update, freeze, WrittenDeed, DraftAct, write, perform, branch, branch_else, DraftActs}
 use Rattle.app_tree.specs.DraftView.{draft_trees, draft_acts}
 use Rattle.app_tree.specs.Fits.{is_natural, is_number, are_numbers, constant_fits, deeper, whole_fits, deed_fits, write_fits, act_fits, acts_fit, body_fits, is_budget}
-use Rattle.app_reader.specs.State.{Reads, ◌>>=◌, choose, place_of, skip, is_word_next, is_symbol_next, is_text_next, next_word, unexpected, symbol_at, name_at, number_at, text_at, turns_of}
+use Rattle.rx_value.specs.Results.{◌>>=◌, choose}
+use Rattle.app_reader.specs.State.{Reads, place_of, skip, is_word_next, is_symbol_next, is_text_next, next_word, unexpected, symbol_at, name_at, number_at, text_at, turns_of}
 use Rattle.app_reader.specs.Terms.{truth_value, truth_at, word_constant_at, whole_term_at, term_at, bracketed_at, optional_at}
 use Rattle.app_reader.specs.Constants.{signed_at, behind_minus, further_number_at, numbers_at, optional_numbers_at, list_at, is_constant_word_next, constant_at, priority_at, limit_at, budget_at}
 use Rattle.app_reader.specs.Statements.{assigned_at, set_at, update_at, sent_at, invoke_at, freeze_at, deed_at, write_at, is_write_next, is_statement_next, do_at, branch_at, statement_at, further_statement_at, statements_at, block_in, block_at, further_write_at, writes_at, body_at}
 use Rattle.app_reader.specs.Spelling.{Wording, either, IsSpelledBy, a_word, a_word_at, a_symbol, a_number, spell_term, spell_number, spell_more_numbers, spell_numbers, spell_constant, written_priority, spell_priority, written_budget, spell_budget, deed_word, spell_assigned, spell_deed, spell_write, spell_writes, spell_condition, spell_act, spell_acts, spell_block, spell_body}
-use Rattle.app_reader.proofs.Got.{both, and_left, and_right, bind_ok, ok_is, Got, SoundAt, IsSound, already, refused, seq1, seq2, seq3, seq4, weaker, respelled, bind_sound, choose_sound, choose_from, symbol_stands, word_stands, behind_symbol, behind_word, behind_word_there, stays, symbol_sound, number_sound, text_sound, name_sound, chosen, collected, pushed}
+use Rattle.app_reader.proofs.Got.{bind_ok, ok_is, Got, SoundAt, IsSound, already, refused, seq1, seq2, seq3, seq4, weaker, respelled, bind_sound, choose_sound, choose_from, symbol_stands, word_stands, behind_symbol, behind_word, behind_word_there, stays, symbol_sound, number_sound, text_sound, name_sound, chosen, collected, pushed}
 use Rattle.app_reader.proofs.TermsSound.{AllWhole, IsMany, many_push, spell_list, a_truth, truth_sound, bracketed_sound, optional_sound, term_sound, at_most}
 
 -- ---- numbers
@@ -56,8 +58,8 @@ numbers_push [] z rest many = absurd many
 numbers_push (x ∷ zs) z rest many = ap (spell_number x) (more_numbers_push zs z rest)
 
 pub all_push : {A : Type 0} (test : A → Bool) (xs : List A) (x : A) → list_all test xs ≡ true → test x ≡ true → list_all test (xs ++ x ∷ []) ≡ true
-all_push test [] x h p = both (test x) true p refl
-all_push test (y ∷ xs) x h p = both (test y) (list_all test (xs ++ x ∷ [])) (and_left (test y) (list_all test xs) h) (all_push test xs x (and_right (test y) (list_all test xs) h) p)
+all_push test [] x h p = and_from (test x) true p refl
+all_push test (y ∷ xs) x h p = and_from (test y) (list_all test (xs ++ x ∷ [])) ((and_parts (test y) (list_all test xs) h).0) (all_push test xs x ((and_parts (test y) (list_all test xs) h).1) p)
 
 -- some numbers, and not too many
 record AreNumbers (zs : List ℤ) : Type 0 where
@@ -87,10 +89,10 @@ numbers_sound s =
     bind_sound s (signed_at s) (λ first. turns_of (suc (length first.1.tokens)) (λ b. is_symbol_next symbol.Comma b.1) further_number_at (first.0 ∷ [], first.1)) (signed_sound s)
     (λ a g. collected s (λ b. is_symbol_next symbol.Comma b.1) further_number_at (suc (length a.1.tokens)) (a.0 ∷ [], a.1)
     (λ b holds got. further_number_sound s b holds got)
-    (seq1 s (Ok a) (λ z. z ∷ []) (already s a g) (λ z p. record { many = tt; few = omega arith; each = both (is_number z) true p refl }) (λ z rest p h. h)))
+    (seq1 s (Ok a) (λ z. z ∷ []) (already s a g) (λ z p. record { many = tt; few = omega arith; each = and_from (is_number z) true p refl }) (λ z rest p h. h)))
 
 numbers_fit : (zs : List ℤ) → AreNumbers zs → are_numbers zs ≡ true
-numbers_fit zs p = both (nat_le (length zs) 1000) (list_all is_number zs) (at_most (length zs) 1000 p.few) p.each
+numbers_fit zs p = and_from (nat_le (length zs) 1000) (list_all is_number zs) (at_most (length zs) 1000 p.few) p.each
 
 optional_numbers_sound : IsSound spell_numbers (λ zs. are_numbers zs ≡ true) optional_numbers_at
 unfolding optional_numbers_at
@@ -251,7 +253,7 @@ unfolding body_at
 body_sound s =
     seq4 s (symbol_at symbol.OpenBrace s) writes_at whole_term_at (symbol_at symbol.CloseBrace) (λ u ws t c. record { writes = ws; term = t })
     (symbol_sound symbol.OpenBrace s) writes_sound whole_term_sound (symbol_sound symbol.CloseBrace)
-    (λ u ws t c p q r o. both (list_all write_fits ws) (whole_fits t) q r) (λ u ws t c rest p h. h)
+    (λ u ws t c p q r o. and_from (list_all write_fits ws) (whole_fits t) q r) (λ u ws t c rest p h. h)
 
 -- ---- statements and blocks
 
@@ -304,8 +306,8 @@ branch_sound block levels h s begins =
         let fewer : length o.0.1.tokens ≤ length s.tokens = omega (arith, f.shorter, g.shorter, k.shorter) in
         subst (Got spell_act (IsAct levels) s) (ok_is made y o.2) (record {
           spells = λ rest left. g.spells (spell_block first (a_word word.Else (spell_block (draft_acts o.0.0) rest))) (f.spells (a_word word.Else (spell_block (draft_acts o.0.0) rest)) (k.spells rest left));
-          holds = both (whole_fits a.0 && deeper levels (λ below. acts_fit first below)) (deeper levels (λ below. acts_fit (draft_acts o.0.0) below))
-              (both (whole_fits a.0) (deeper levels (λ below. acts_fit first below)) g.holds f.holds) k.holds;
+          holds = and_from (whole_fits a.0 && deeper levels (λ below. acts_fit first below)) (deeper levels (λ below. acts_fit (draft_acts o.0.0) below))
+              (and_from (whole_fits a.0) (deeper levels (λ below. acts_fit first below)) g.holds f.holds) k.holds;
           good = k.good;
           shorter = fewer;
         }))
@@ -314,7 +316,7 @@ branch_sound block levels h s begins =
         let fewer : length b.0.1.tokens ≤ length s.tokens = omega (arith, f.shorter, g.shorter) in
         subst (Got spell_act (IsAct levels) s) (ok_is made y d) (record {
           spells = λ rest left. g.spells (spell_block first rest) (f.spells rest left);
-          holds = both (whole_fits a.0) (deeper levels (λ below. acts_fit first below)) g.holds f.holds;
+          holds = and_from (whole_fits a.0) (deeper levels (λ below. acts_fit first below)) g.holds f.holds;
           good = f.good;
           shorter = fewer;
         }))
@@ -333,10 +335,10 @@ acts_push [] a rest = refl
 acts_push (x ∷ xs) a rest = ap (spell_act x) (acts_push xs a rest)
 
 acts_fit_push : (levels : ℕ) (xs : List DraftAct) (a : DraftAct) → acts_fit (draft_acts xs) levels ≡ true → IsAct levels a → acts_fit (draft_acts (xs ++ a ∷ [])) levels ≡ true
-acts_fit_push levels [] a h p = both (act_fits a levels) true p refl
+acts_fit_push levels [] a h p = and_from (act_fits a levels) true p refl
 acts_fit_push levels (x ∷ xs) a h p =
-    both (act_fits x levels) (acts_fit (draft_acts (xs ++ a ∷ [])) levels) (and_left (act_fits x levels) (acts_fit (draft_acts xs) levels) h)
-    (acts_fit_push levels xs a (and_right (act_fits x levels) (acts_fit (draft_acts xs) levels) h) p)
+    and_from (act_fits x levels) (acts_fit (draft_acts (xs ++ a ∷ [])) levels) ((and_parts (act_fits x levels) (acts_fit (draft_acts xs) levels) h).0)
+    (acts_fit_push levels xs a ((and_parts (act_fits x levels) (acts_fit (draft_acts xs) levels) h).1) p)
 
 statements_sound : (block : Reads (List DraftAct)) (levels : ℕ) → IsSound spell_block_list (IsBlock levels) block → IsSound spell_act_list (λ xs. acts_fit (draft_acts xs) levels ≡ true) (statements_at block)
 unfolding statements_at further_statement_at

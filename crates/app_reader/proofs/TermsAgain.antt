@@ -1,5 +1,6 @@
 -- A term that fits is read again from its spelling.
 use Rattle.std.proofs.Common.{◌≡◌, ℕ, zero, suc, pos, negsuc, ◌+◌, ◌<◌, ◌≤◌, Bool, true, false, ◌&&◌, List, [], ◌∷◌, ◌++◌, length, Result, Ok, Option, Some, None, refl, sym, ap, subst, ◌∙◌, arith, length-append}
+use Rattle.std.proofs.lemmas.Bool.{and_parts}
 use Rattle.std.specs.Prelude.{nat_le, nat_lt}
 use Rattle.rx_value.specs.declared.value.Value.{Value}
 use Rattle.rx_value.specs.declared.value.Value.TheVariants as v
@@ -24,12 +25,12 @@ use Rattle.app_tree.specs.DraftTree.{DraftTree, constant, group, read, variable,
 use Rattle.app_tree.specs.DraftView.{draft_trees}
 use Rattle.app_tree.specs.Fits.{name_fits, hold_of, is_signed, operators, arguments_of, count, deeper, whole_in, term_fits, terms_fit}
 use Rattle.app_reader.specs.declared.error.ReadError.{ReadError}
-use Rattle.app_reader.specs.State.{Reads, ◌>>=◌, choose, found, place_of, skip, is_name, is_text, is_word_next, is_symbol_next, is_name_next, is_text_next, word_of, symbol_of, next_word, unexpected, word_at, symbol_at, name_at, number_at, text_at, turns_of}
+use Rattle.rx_value.specs.Results.{◌>>=◌, choose}
+use Rattle.app_reader.specs.State.{Reads, choose_some, place_of, skip, is_name, is_text, is_word_next, is_symbol_next, is_name_next, is_text_next, word_of, symbol_of, next_word, unexpected, word_at, symbol_at, name_at, number_at, text_at, turns_of}
 use Rattle.app_reader.specs.Words.{sign_of, function_of, read_form_of}
 use Rattle.app_reader.specs.Terms.{named_at, input_at, read_at, truth_at, truth_value, word_term_at, literal_at, bracketed_at, group_at, isolate_at, stop_at, cancels_at, require_at, part_at, inner_name_at, last_part_at, fold_start_at, inner_names_at, fold_at, further_at, listed_at, counted_at, optional_at, arguments_at, call_at, special_at, worded_at, atom_at, sign_in, next_sign, unary_in, operation_at, ways_at, choice_at, term_in, term_at, unary_at}
 use Rattle.app_reader.specs.Spelling.{Wanted, of_kind, at_place, named, called, Wording, next, IsSpelledBy, a_word, a_symbol, a_number, a_name, sign_symbol, function_word, spell_named, spell_read, spell_cancels, spell_term, spell_terms, spell_more, spell_bracketed}
 use Rattle.app_reader.proofs.Ranks.{code}
-use Rattle.app_reader.proofs.Got.{and_left, and_right}
 use Rattle.app_reader.proofs.TermsSound.{Whole}
 use Rattle.app_reader.proofs.Again.{same_refl, To, Again, then1, then2, then3, then4, by_first, by_other, by_found, by_none, kind_of, first_is, word_is, symbol_is, tail_is, fewer_is, place_is, behind, never, symbol_again, word_again, number_again, text_again, name_again, all_of, Stepped, loop_again}
 use Rattle.app_reader.proofs.ChainsAgain.{Stops, no_open}
@@ -50,8 +51,8 @@ unfolding atom_at
 worded levels s t after w u mid eq is h =
     let term = term_at levels in
     atom_of levels s t after w mid (ap (λ k. sign_in (symbol_of k)) eq) is
-    (by_other (is_symbol_next symbol.Open s) (group_at term) (choose (is_name_next s) named_at (found (next_word s) (worded_at term) literal_at)) s s (first_is (is_symbol symbol.Open) w mid s.tokens is ∙ ap (is_symbol symbol.Open) eq)
-    (by_other (is_name_next s) named_at (found (next_word s) (worded_at term) literal_at) s s (first_is is_name w mid s.tokens is ∙ ap is_name eq)
+    (by_other (is_symbol_next symbol.Open s) (group_at term) (choose (is_name_next s) named_at (choose_some (next_word s) (worded_at term) literal_at)) s s (first_is (is_symbol symbol.Open) w mid s.tokens is ∙ ap (is_symbol symbol.Open) eq)
+    (by_other (is_name_next s) named_at (choose_some (next_word s) (worded_at term) literal_at) s s (first_is is_name w mid s.tokens is ∙ ap is_name eq)
     (by_found (next_word s) u (worded_at term) literal_at s (word_is w mid s.tokens is ∙ ap word_of eq) h)))
 
 -- an atom that is a literal
@@ -61,8 +62,8 @@ unfolding atom_at
 literal levels s t after w mid no_sign no_open no_name no_word is h =
     let term = term_at levels in
     atom_of levels s t after w mid no_sign is
-    (by_other (is_symbol_next symbol.Open s) (group_at term) (choose (is_name_next s) named_at (found (next_word s) (worded_at term) literal_at)) s s (first_is (is_symbol symbol.Open) w mid s.tokens is ∙ no_open)
-    (by_other (is_name_next s) named_at (found (next_word s) (worded_at term) literal_at) s s (first_is is_name w mid s.tokens is ∙ no_name)
+    (by_other (is_symbol_next symbol.Open s) (group_at term) (choose (is_name_next s) named_at (choose_some (next_word s) (worded_at term) literal_at)) s s (first_is (is_symbol symbol.Open) w mid s.tokens is ∙ no_open)
+    (by_other (is_name_next s) named_at (choose_some (next_word s) (worded_at term) literal_at) s s (first_is is_name w mid s.tokens is ∙ no_name)
     (by_none (next_word s) (worded_at term) literal_at s (word_is w mid s.tokens is ∙ no_word) h)))
 
 -- an atom that is a name
@@ -71,8 +72,8 @@ unfolding atom_at
 by_name levels s t after w mid eq is h =
     let term = term_at levels in
     atom_of levels s t after w mid (ap (λ k. sign_in (symbol_of k)) eq) is
-    (by_other (is_symbol_next symbol.Open s) (group_at term) (choose (is_name_next s) named_at (found (next_word s) (worded_at term) literal_at)) s s (first_is (is_symbol symbol.Open) w mid s.tokens is ∙ ap (is_symbol symbol.Open) eq)
-    (by_first (is_name_next s) named_at (found (next_word s) (worded_at term) literal_at) s s (first_is is_name w mid s.tokens is ∙ ap is_name eq) h))
+    (by_other (is_symbol_next symbol.Open s) (group_at term) (choose (is_name_next s) named_at (choose_some (next_word s) (worded_at term) literal_at)) s s (first_is (is_symbol symbol.Open) w mid s.tokens is ∙ ap (is_symbol symbol.Open) eq)
+    (by_first (is_name_next s) named_at (choose_some (next_word s) (worded_at term) literal_at) s s (first_is is_name w mid s.tokens is ∙ ap is_name eq) h))
 
 -- ---- names
 
@@ -478,7 +479,7 @@ group_facts t h = atom_facts (group t) refl (λ rest. refl) (λ levels s after f
     let w : Wanted = of_kind (kind.Symbol symbol.Open) in
     let mid : Wording = spell_term t (a_symbol symbol.Close after) in
     atom_of levels s (group t) after w mid refl is
-    (by_first (is_symbol_next symbol.Open s) (group_at (term_at levels)) (choose (is_name_next s) named_at (found (next_word s) (worded_at (term_at levels)) literal_at)) s s (first_is (is_symbol symbol.Open) w mid s.tokens is)
+    (by_first (is_symbol_next symbol.Open s) (group_at (term_at levels)) (choose (is_name_next s) named_at (choose_some (next_word s) (worded_at (term_at levels)) literal_at)) s s (first_is (is_symbol symbol.Open) w mid s.tokens is)
     (group_again (term_at levels) t after (readable levels t h f) s is)))
 
 isolate_facts : (place : ℕ) (t : DraftTree) → Facts t → Facts (isolate place t)
@@ -509,11 +510,11 @@ fold_facts place a b c m n ha hb hc = atom_facts (fold place a b m n c) refl (λ
     let fits_a : Bool = whole_in a levels (λ below. term_fits a below) in
     let fits_b : Bool = whole_in b levels (λ below. term_fits b below) in
     let fits_c : Bool = whole_in c levels (λ below. term_fits c below) in
-    let names = and_left (fits_a && fits_b && name_fits m && name_fits n) fits_c f in
-    let parts = and_left (fits_a && fits_b) (name_fits m) (and_left (fits_a && fits_b && name_fits m) (name_fits n) names) in
-    let ra = readable levels a ha (and_left fits_a fits_b parts) in
-    let rb = readable levels b hb (and_right fits_a fits_b parts) in
-    let rc = readable levels c hc (and_right (fits_a && fits_b && name_fits m && name_fits n) fits_c f) in
+    let names = (and_parts (fits_a && fits_b && name_fits m && name_fits n) fits_c f).0 in
+    let parts = (and_parts (fits_a && fits_b) (name_fits m) ((and_parts (fits_a && fits_b && name_fits m) (name_fits n) names).0)).0 in
+    let ra = readable levels a ha ((and_parts fits_a fits_b parts).0) in
+    let rb = readable levels b hb ((and_parts fits_a fits_b parts).1) in
+    let rc = readable levels c hc ((and_parts (fits_a && fits_b && name_fits m && name_fits n) fits_c f).1) in
     let mid : Wording = a_symbol symbol.Open (spell_term a (a_symbol symbol.Comma (spell_term b (a_symbol symbol.Comma (a_name m (a_symbol symbol.Comma (a_name n (a_symbol symbol.Comma (spell_term c (a_symbol symbol.Close after)))))))))) in
     worded levels s (fold place a b m n c) after w word.Fold mid refl is (special (term_at levels) s (fold place a b m n c) after w word.Fold mid (fold_at (term_at levels)) refl is refl (fold_again (term_at levels) place a b c m n after ra rb rc s is)))
 
@@ -524,17 +525,17 @@ AllFacts (tree t ts) = Facts t × AllFacts ts
 all_read : (ts : DraftTrees) (levels : ℕ) → AllFacts ts → terms_fit ts levels ≡ true → AllRead (term_at levels) (list_of ts)
 all_read no_trees levels h f = tt
 all_read (tree t ts) levels h f =
-    (readable levels t h.0 (and_left (whole_in t levels (λ below. term_fits t below)) (terms_fit ts levels) f), all_read ts levels h.1 (and_right (whole_in t levels (λ below. term_fits t below)) (terms_fit ts levels) f))
+    (readable levels t h.0 ((and_parts (whole_in t levels (λ below. term_fits t below)) (terms_fit ts levels) f).0), all_read ts levels h.1 ((and_parts (whole_in t levels (λ below. term_fits t below)) (terms_fit ts levels) f).1))
 
 call_facts : (f : Function) (ts : DraftTrees) → AllFacts ts → Facts (call f ts)
 unfolding worded_at
 call_facts f ts h = atom_facts (call f ts) refl (λ rest. function_not_if f) (λ levels s after fits stops is.
     let w : Wanted = of_kind (kind.Word (function_word f)) in
     let mid : Wording = a_symbol symbol.Open (spell_terms ts (a_symbol symbol.Close after)) in
-    let many = and_left (is_count (arguments_of f) (count ts)) (terms_fit ts levels) fits in
-    let all = and_right (is_count (arguments_of f) (count ts)) (terms_fit ts levels) fits in
+    let many = (and_parts (is_count (arguments_of f) (count ts)) (terms_fit ts levels) fits).0 in
+    let all = (and_parts (is_count (arguments_of f) (count ts)) (terms_fit ts levels) fits).1 in
     worded levels s (call f ts) after w (function_word f) mid refl is
-    (by_found (function_of (function_word f)) f (call_at (term_at levels)) (found (read_form_of (function_word f)) read_at (special_at (term_at levels))) s (function_back f)
+    (by_found (function_of (function_word f)) f (call_at (term_at levels)) (choose_some (read_form_of (function_word f)) read_at (special_at (term_at levels))) s (function_back f)
     (call_again (term_at levels) f ts after (all_read ts levels h all) many s is)))
 
 sign_back : (op : UnOp) → sign_of (sign_symbol op) ≡ Some op
@@ -556,8 +557,8 @@ unary_facts op t h = atom_facts (unary op t) refl (λ rest. sign_not_if op) read
     reads levels s after f stops is =
         let w : Wanted = of_kind (kind.Symbol (sign_symbol op)) in
         let mid : Wording = spell_term t after in
-        let six : hold_of t ≡ 6 = eq_of (hold_of t) 6 (and_left (is_signed t) (deeper levels (λ below. term_fits t below)) f) in
-        let deep_fits = and_right (is_signed t) (deeper levels (λ below. term_fits t below)) f in
+        let six : hold_of t ≡ 6 = eq_of (hold_of t) 6 ((and_parts (is_signed t) (deeper levels (λ below. term_fits t below)) f).0) in
+        let deep_fits = (and_parts (is_signed t) (deeper levels (λ below. term_fits t below)) f).1 in
         by_found (next_sign s) op (λ op t. unary_at levels (skip t) >>= λ u. Ok (unary op u.0, u.1)) (atom_at (term_at levels)) s (ap sign_in (symbol_is w mid s.tokens is) ∙ sign_back op)
         (behind s (unary_at levels (skip s) >>= λ u. Ok (unary op u.0, u.1)) w mid is
         (then1 (skip s) (unary_at levels (skip s)) (λ t. unary op t) (deep levels (skip s) after six deep_fits stops (tail_is w mid s.tokens is))))
@@ -595,10 +596,10 @@ choice_facts a b c ha hb hc = record {
         let fits_a : Bool = whole_in a m (λ below. term_fits a below) in
         let fits_b : Bool = whole_in b m (λ below. term_fits b below) in
         let fits_c : Bool = whole_in c m (λ below. term_fits c below) in
-        let g = and_right (nat_le (operators (choice a b c)) 64) (term_fits (choice a b c) m) f in
-        let ra = readable m a ha (and_left fits_a fits_b (and_left (fits_a && fits_b) fits_c g)) in
-        let rb = readable m b hb (and_right fits_a fits_b (and_left (fits_a && fits_b) fits_c g)) in
-        let rc = readable m c hc (and_right (fits_a && fits_b) fits_c g) in
+        let g = (and_parts (nat_le (operators (choice a b c)) 64) (term_fits (choice a b c) m) f).1 in
+        let ra = readable m a ha ((and_parts fits_a fits_b ((and_parts (fits_a && fits_b) fits_c g).0)).0) in
+        let rb = readable m b hb ((and_parts fits_a fits_b ((and_parts (fits_a && fits_b) fits_c g).0)).1) in
+        let rc = readable m c hc ((and_parts (fits_a && fits_b) fits_c g).1) in
         let w : Wanted = of_kind (kind.Word word.If) in
         let mid : Wording = spell_bracketed a (spell_term b (a_word word.Else (spell_term c after))) in
         by_first (is_word_next word.If s) (choice_at (term_at m)) (operation_at (unary_in (term_at m) (unary_at m))) s s (first_is (is_word word.If) w mid s.tokens is)

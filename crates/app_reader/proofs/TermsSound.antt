@@ -1,5 +1,6 @@
 -- What is read as a term is spelled so, and fits.
 use Rattle.std.proofs.Common.{◌≡◌, ℕ, zero, suc, pos, ◌+◌, ◌<◌, ◌≤◌, Bool, true, false, ◌&&◌, List, [], ◌∷◌, ◌++◌, length, Result, Ok, Option, Some, None, refl, sym, ap, subst, ◌∙◌, arith, length-append}
+use Rattle.std.proofs.lemmas.Bool.{and_from, and_parts}
 use Rattle.std.specs.Prelude.{nat_eq, nat_le, nat_lt}
 use Rattle.rx_value.specs.declared.value.Value.TheVariants as v
 use Rattle.rx_value.specs.Functions.{is_count}
@@ -21,13 +22,14 @@ use Rattle.app_tree.specs.Fits.{name_fits, rank_of, hold_of, left_of, are_operan
 use Rattle.app_reader.specs.declared.error.ReadError.{ReadError}
 use Rattle.app_reader.specs.declared.operators.Rank.{Rank}
 use Rattle.app_reader.specs.declared.operators.Rank.TheVariants as rank
-use Rattle.app_reader.specs.State.{Reads, ◌>>=◌, choose, found, place_of, rest_of, skip, is_word_next, is_symbol_next, is_name_next, is_text_next, next_word, next_symbol, unexpected, word_at, symbol_at, name_at, number_at, text_at, turns_of}
+use Rattle.rx_value.specs.Results.{◌>>=◌, choose}
+use Rattle.app_reader.specs.State.{Reads, choose_some, place_of, rest_of, skip, is_word_next, is_symbol_next, is_name_next, is_text_next, next_word, next_symbol, unexpected, word_at, symbol_at, name_at, number_at, text_at, turns_of}
 use Rattle.app_reader.specs.Words.{function_of, read_form_of}
-use Rattle.app_reader.specs.Terms.{named_at, input_at, read_at, truth_at, truth_value, word_term_at, literal_at, bracketed_at, group_at, isolate_at, stop_at, cancels_at, require_at, part_at, inner_name_at, last_part_at, fold_start_at, inner_names_at, fold_at, further_at, listed_at, counted_at, optional_at, arguments_at, call_at, special_at, worded_at, atom_at, next_sign, unary_in, Counted, Operand, next_operator, is_operator_next, counted, operator_at, right_at, chain_at, once_at, unary_operand, product_at, sum_at, comparison_at, and_at, or_at, operation_at, ways_at, choice_at, term_in, term_at, unary_at}
+use Rattle.app_reader.specs.Terms.{named_at, input_at, read_at, truth_at, truth_value, word_term_at, literal_at, bracketed_at, group_at, isolate_at, stop_at, cancels_at, require_at, part_at, inner_name_at, last_part_at, fold_start_at, inner_names_at, fold_at, further_at, listed_at, counted_at, optional_at, arguments_at, call_at, special_at, worded_at, atom_at, next_sign, unary_in, Counted, Operand, next_operator, is_operator_next, operator_and_rest, operator_at, right_at, chain_at, once_at, unary_operand, product_at, sum_at, comparison_at, and_at, or_at, operation_at, ways_at, choice_at, term_in, term_at, unary_at}
 use Rattle.app_reader.specs.Spelling.{of_kind, called, Wording, next, IsSpelledBy, a_word, a_symbol, a_name, operator_symbol, sign_symbol, function_word, literal_kind, spell_named, spell_read, spell_cancels, spell_term, spell_terms, spell_more, spell_bracketed}
 use Rattle.app_reader.specs.Laws.{tokens_fit}
 use Rattle.app_reader.proofs.Ranks.{code, operator_stands, sign_stands, function_of-is, no_operators}
-use Rattle.app_reader.proofs.Got.{both, and_left, and_right, bind_ok, ok_is, Got, SoundAt, IsSound, already, refused, seq1, seq2, seq3, seq4, choose_sound, found_sound, symbol_stands, word_stands, behind_symbol, behind_word, behind_word_there, fewer_symbol, stays, onward, leads_symbol, fit_behind, weaker, bind_sound, chosen, choose_from, symbol_takes, Any, symbol_sound, word_sound, number_sound, text_sound, IsWord, name_sound, loop_keeps, loop_ends, collected}
+use Rattle.app_reader.proofs.Got.{bind_ok, ok_is, Got, SoundAt, IsSound, already, refused, seq1, seq2, seq3, seq4, choose_sound, found_sound, symbol_stands, word_stands, behind_symbol, behind_word, behind_word_there, fewer_symbol, stays, onward, leads_symbol, fit_behind, weaker, bind_sound, chosen, choose_from, symbol_takes, Any, symbol_sound, word_sound, number_sound, text_sound, IsWord, name_sound, loop_keeps, loop_ends, collected}
 
 -- a term of its own, with so many levels from its own on
 abbrev pub Whole : ℕ → DraftTree → Type 0
@@ -190,7 +192,7 @@ fold_fits levels place a b c m n p q u v r =
     let fits_a : Bool = whole_in a levels (λ below. term_fits a below) in
     let fits_b : Bool = whole_in b levels (λ below. term_fits b below) in
     let fits_c : Bool = whole_in c levels (λ below. term_fits c below) in
-    (refl, both (fits_a && fits_b && name_fits m && name_fits n) fits_c (both (fits_a && fits_b && name_fits m) (name_fits n) (both (fits_a && fits_b) (name_fits m) (both fits_a fits_b p q) u) v) r)
+    (refl, and_from (fits_a && fits_b && name_fits m && name_fits n) fits_c (and_from (fits_a && fits_b && name_fits m) (name_fits n) (and_from (fits_a && fits_b) (name_fits m) (and_from fits_a fits_b p q) u) v) r)
 
 fold_sound : (term : Reads DraftTree) (levels : ℕ) → IsSound spell_term (Whole levels) term → (s : Tokens) → next_word s ≡ Some word.Fold → SoundAt spell_term (Atom levels) s (fold_at term s)
 unfolding fold_at
@@ -216,11 +218,11 @@ many_push [] x = tt
 many_push (y ∷ ys) x = tt
 
 fits_push : (levels : ℕ) (ts : List DraftTree) (t : DraftTree) → AllWhole levels ts → Whole levels t → AllWhole levels (ts ++ t ∷ [])
-fits_push levels [] t h f = both (whole_in t levels (λ below. term_fits t below)) true f refl
+fits_push levels [] t h f = and_from (whole_in t levels (λ below. term_fits t below)) true f refl
 fits_push levels (x ∷ ts) t h f =
-    both (whole_in x levels (λ below. term_fits x below)) (terms_fit (draft_trees (ts ++ t ∷ [])) levels)
-    (and_left (whole_in x levels (λ below. term_fits x below)) (terms_fit (draft_trees ts) levels) h)
-    (fits_push levels ts t (and_right (whole_in x levels (λ below. term_fits x below)) (terms_fit (draft_trees ts) levels) h) f)
+    and_from (whole_in x levels (λ below. term_fits x below)) (terms_fit (draft_trees (ts ++ t ∷ [])) levels)
+    ((and_parts (whole_in x levels (λ below. term_fits x below)) (terms_fit (draft_trees ts) levels) h).0)
+    (fits_push levels ts t ((and_parts (whole_in x levels (λ below. term_fits x below)) (terms_fit (draft_trees ts) levels) h).1) f)
 
 more_push : (ts : List DraftTree) (t : DraftTree) (rest : Wording) → spell_more (draft_trees ts) (a_symbol symbol.Comma (spell_term t rest)) ≡ spell_more (draft_trees (ts ++ t ∷ [])) rest
 more_push [] t rest = refl
@@ -246,7 +248,7 @@ further_sound term levels h s b got =
 first_sound : (term : Reads DraftTree) (levels : ℕ) → IsSound spell_term (Whole levels) term → (s : Tokens) (a : DraftTree × Tokens) → Got spell_term (Whole levels) s a
     → SoundAt spell_list (λ ts. IsMany ts × AllWhole levels ts) s (Ok (a.0 ∷ [], a.1))
 first_sound term levels h s a g =
-    seq1 s (Ok a) (λ t. t ∷ []) (already s a g) (λ t p. (tt, both (whole_in t levels (λ below. term_fits t below)) true p refl)) (λ t rest p held. held)
+    seq1 s (Ok a) (λ t. t ∷ []) (already s a g) (λ t p. (tt, and_from (whole_in t levels (λ below. term_fits t below)) true p refl)) (λ t rest p held. held)
 
 pub listed_sound : (term : Reads DraftTree) (levels : ℕ) → IsSound spell_term (Whole levels) term → IsSound spell_list (λ ts. IsMany ts × AllWhole levels ts) (listed_at term)
 unfolding listed_at
@@ -336,7 +338,7 @@ call_sound term levels h f s begins =
     seq3 s (symbol_at symbol.Open (skip s)) (arguments_at term (arguments_of f)) (symbol_at symbol.Close) (λ u ts c. call f (draft_trees ts))
     (behind_word (function_word f) s (symbol_at symbol.Open (skip s)) begins (symbol_sound symbol.Open (skip s)))
     (arguments_sound term levels (arguments_of f) (takes_some f) h) (symbol_sound symbol.Close)
-    (λ u ts c p q r. (refl, both (is_count (arguments_of f) (count (draft_trees ts))) (terms_fit (draft_trees ts) levels) (q.0) q.1))
+    (λ u ts c p q r. (refl, and_from (is_count (arguments_of f) (count (draft_trees ts))) (terms_fit (draft_trees ts) levels) (q.0) q.1))
     (λ u ts c rest p q held. held)
 
 -- ---- atoms and signs
@@ -359,7 +361,7 @@ special_sound term levels h s =
 worded_sound : (term : Reads DraftTree) (levels : ℕ) → IsSound spell_term (Whole levels) term → (w : Word) (s : Tokens) → next_word s ≡ Some w → SoundAt spell_term (Atom levels) s (worded_at term w s)
 unfolding worded_at
 worded_sound term levels h w s begins =
-    found_sound (function_of w) (call_at term) (found (read_form_of w) read_at (special_at term)) s
+    found_sound (function_of w) (call_at term) (choose_some (read_form_of w) read_at (special_at term)) s
     (λ f e. call_sound term levels h f s (begins ∙ ap (λ v. Some v) (sym (function_of-is w f e))))
     (λ e. found_sound (read_form_of w) read_at (special_at term) s
     (λ f e. read_form_sound levels w f s e begins)
@@ -368,9 +370,9 @@ worded_sound term levels h w s begins =
 atom_sound : (term : Reads DraftTree) (levels : ℕ) → IsSound spell_term (Whole levels) term → IsSound spell_term (Atom levels) (atom_at term)
 unfolding atom_at
 atom_sound term levels h s =
-    choose_sound (is_symbol_next symbol.Open s) (group_at term) (choose (is_name_next s) named_at (found (next_word s) (worded_at term) literal_at)) s
+    choose_sound (is_symbol_next symbol.Open s) (group_at term) (choose (is_name_next s) named_at (choose_some (next_word s) (worded_at term) literal_at)) s
     (λ e. group_sound term levels h s)
-    (λ e. choose_sound (is_name_next s) named_at (found (next_word s) (worded_at term) literal_at) s
+    (λ e. choose_sound (is_name_next s) named_at (choose_some (next_word s) (worded_at term) literal_at) s
     (λ e. named_sound levels s)
     (λ e. found_sound (next_word s) (worded_at term) literal_at s
     (λ w e. worded_sound term levels h w s e)
@@ -381,7 +383,7 @@ unfolding unary_in
 unary_in_sound term operand levels h k s =
     found_sound (next_sign s) (λ op t. operand (skip t) >>= λ u. Ok (unary op u.0, u.1)) (atom_at term) s
     (λ op e. seq1 s (operand (skip s)) (λ t. unary op t) (behind_symbol (sign_symbol op) s (operand (skip s)) (sign_stands (next_symbol s) op e) (k (skip s)))
-    (λ t p. (refl, both (is_signed t) (deeper levels (λ below. term_fits t below)) (same (hold_of t) 6 p.0) p.1)) (λ t rest p held. held))
+    (λ t p. (refl, and_from (is_signed t) (deeper levels (λ below. term_fits t below)) (same (hold_of t) 6 p.0) p.1)) (λ t rest p held. held))
     (λ e. atom_sound term levels h s)
 
 -- ---- operators
@@ -393,7 +395,7 @@ record Operated (r : Rank) (c : Counted) (y : Operator × Counted) : Type 0 wher
   counts : c.0 ≡ suc y.1.0
   left : skip c.1 ≡ y.1.1
 
-counted_is : (n : ℕ) (o : Operator) (s : Tokens) (y : Operator × Counted) → counted n o s ≡ Ok y → (o ≡ y.0) × (n ≡ suc y.1.0) × (skip s ≡ y.1.1)
+counted_is : (n : ℕ) (o : Operator) (s : Tokens) (y : Operator × Counted) → operator_and_rest n o s ≡ Ok y → (o ≡ y.0) × (n ≡ suc y.1.0) × (skip s ≡ y.1.1)
 counted_is zero o s y e = absurd cc
 counted_is (suc n) o s y e =
     let made : Operator × Counted = (o, (n, skip s)) in
@@ -404,7 +406,7 @@ operator_sound : (r : Rank) (c : Counted) (y : Operator × Counted) → operator
 unfolding operator_at
 operator_sound r c y e = by (next_operator r c.1) refl e
   where
-    by : (o : Option Operator) → next_operator r c.1 ≡ o → found o (counted c.0) unexpected c.1 ≡ Ok y → Operated r c y
+    by : (o : Option Operator) → next_operator r c.1 ≡ o → choose_some o (operator_and_rest c.0) unexpected c.1 ≡ Ok y → Operated r c y
     by None is e = absurd cc
     by (Some o) is e =
         let k = counted_is c.0 o c.1 y e in
@@ -438,8 +440,8 @@ binary_fits : (o : Operator) (a b : DraftTree) (levels k l : ℕ) → rank_of o 
 binary_fits o a b levels k l ranks is la lb fa fb =
     let left : nat_le (left_of (rank_of o)) (hold_of a) ≡ true = subst (λ r. nat_le (left_of r) (hold_of a) ≡ true) (sym ranks) (subst (λ m. nat_le m (hold_of a) ≡ true) (sym is) (at_most l (hold_of a) la)) in
     let right : nat_lt (rank_of o) (hold_of b) ≡ true = subst (λ r. nat_lt r (hold_of b) ≡ true) (sym ranks) (below k (hold_of b) lb) in
-    both (are_operands o a b && term_fits a levels) (term_fits b levels)
-    (both (are_operands o a b) (term_fits a levels) (both (nat_le (left_of (rank_of o)) (hold_of a)) (nat_lt (rank_of o) (hold_of b)) left right) fa) fb
+    and_from (are_operands o a b && term_fits a levels) (term_fits b levels)
+    (and_from (are_operands o a b) (term_fits a levels) (and_from (nat_le (left_of (rank_of o)) (hold_of a)) (nat_lt (rank_of o) (hold_of b)) left right) fa) fb
 
 -- an operator and its right operand, behind what was got to the left of them
 right_sound : (r : Rank) (levels l : ℕ) (operand : Operand) → left_of (code r) ≡ l → OperandSound (suc (code r)) levels operand → (c : Counted) (b d : DraftTree × Counted)
@@ -518,7 +520,7 @@ operation_sound p levels h s = record {
       let few : operators a.0.0 ≤ 64 = omega (arith, g.counts) in
       subst (Got spell_term (Whole (suc levels)) s) (ok_is made y a.2) (record {
         spells = g.spells;
-        holds = both (nat_le (operators a.0.0) 64) (term_fits a.0.0 levels) (at_most (operators a.0.0) 64 few) g.fits;
+        holds = and_from (nat_le (operators a.0.0) 64) (term_fits a.0.0 levels) (at_most (operators a.0.0) 64 few) g.fits;
         good = g.good;
         shorter = g.shorter;
       });
@@ -533,8 +535,8 @@ ways_sound term levels h s = seq3 s (term s) (word_at word.Else) term (λ a u b.
 
 choice_fits : (levels : ℕ) (a b c : DraftTree) → Whole levels a → Whole levels b → Whole levels c → Whole (suc levels) (choice a b c)
 choice_fits levels a b c p q r =
-    both (whole_in a levels (λ below. term_fits a below) && whole_in b levels (λ below. term_fits b below)) (whole_in c levels (λ below. term_fits c below))
-    (both (whole_in a levels (λ below. term_fits a below)) (whole_in b levels (λ below. term_fits b below)) p q) r
+    and_from (whole_in a levels (λ below. term_fits a below) && whole_in b levels (λ below. term_fits b below)) (whole_in c levels (λ below. term_fits c below))
+    (and_from (whole_in a levels (λ below. term_fits a below)) (whole_in b levels (λ below. term_fits b below)) p q) r
 
 choice_sound : (term : Reads DraftTree) (levels : ℕ) → IsSound spell_term (Whole levels) term → (s : Tokens) → next_word s ≡ Some word.If → SoundAt spell_term (Whole (suc levels)) s (choice_at term s)
 unfolding choice_at

@@ -1,13 +1,16 @@
 -- The grammar of constants, priorities and the budget.
 use Rattle.std.specs.Prelude.{ℕ, ℤ, pos, neg_ℤ, Bool, ◌||◌, List, [], ◌∷◌, ◌++◌, length, Result, Ok, nat_eq}
+use Rattle.rx_value.specs.declared.limits.TheConstants.{LIST_LIMIT}
 use Rattle.rx_value.specs.declared.value.Value.{Value}
 use Rattle.rx_value.specs.declared.value.Value.TheVariants as v
 use Rattle.app_tokens.specs.declared.word.Word.TheVariants as word
 use Rattle.app_tokens.specs.declared.symbol.Symbol.TheVariants as symbol
 use Rattle.app_tokens.specs.Tokens.{Tokens}
+use Rattle.app_tree.specs.declared.limits.TheConstants.{BUDGET_DEFAULT}
 use Rattle.app_tree.specs.Fits.{is_budget}
 use Rattle.app_reader.specs.declared.error.ReadError.{ReadError}
-use Rattle.app_reader.specs.State.{Reads, ◌>>=◌, choose, skip, is_word_next, is_symbol_next, is_text_next, unexpected, symbol_at, number_at, text_at, while_next}
+use Rattle.rx_value.specs.Results.{◌>>=◌, choose}
+use Rattle.app_reader.specs.State.{Reads, skip, is_word_next, is_symbol_next, is_text_next, unexpected, symbol_at, number_at, text_at, while_next}
 use Rattle.app_reader.specs.Terms.{word_constant_at}
 
 -- [ "-" ] INT
@@ -20,10 +23,10 @@ signed_at s =
 abbrev pub behind_minus : Tokens → Tokens
 behind_minus s = choose (is_symbol_next symbol.Minus s) skip (λ t. t) s
 
--- "," [ "-" ] INT, behind the numbers so far, which may be 1,000 in all: of one more the digits are refused
+-- "," [ "-" ] INT, behind the numbers so far: of one more than a list may have the digits are refused
 unfoldable pub further_number_at : List ℤ × Tokens → Result (List ℤ × Tokens) ReadError
 further_number_at b =
-    choose (nat_eq (length b.0) 1000) (λ t. unexpected (behind_minus t)) (λ t. signed_at t >>= λ n. Ok (b.0 ++ n.0 ∷ [], n.1)) (skip b.1)
+    choose (nat_eq (length b.0) LIST_LIMIT) (λ t. unexpected (behind_minus t)) (λ t. signed_at t >>= λ n. Ok (b.0 ++ n.0 ∷ [], n.1)) (skip b.1)
 
 -- [ "-" ] INT { "," [ "-" ] INT }
 unfoldable pub numbers_at : Reads (List ℤ)
@@ -58,12 +61,12 @@ constant_at s =
 unfoldable pub priority_at : Reads ℤ
 priority_at s = choose (is_word_next word.Priority s) (λ t. signed_at (skip t)) (λ t. Ok (pos 0, t)) s
 
--- a number from 1 to 1,000,000; another one is refused where it stands
+-- a budget; another number is refused where it stands
 unfoldable pub limit_at : Reads ℕ
 limit_at s = number_at s >>= λ n. choose (is_budget n.0) (λ t. Ok (n.0, n.1)) unexpected s
 
--- [ "budget" limit ";" ], and 1,000 without it
+-- [ "budget" limit ";" ], and the usual budget without it
 unfoldable pub budget_at : Reads ℕ
 budget_at s =
     choose (is_word_next word.Budget s) (λ t. limit_at (skip t) >>= λ n. symbol_at symbol.Semicolon n.1 >>= λ semicolon. Ok (n.0, semicolon.1))
-    (λ t. Ok (1000, t)) s
+    (λ t. Ok (BUDGET_DEFAULT, t)) s

@@ -20,14 +20,14 @@ input_without_sign = record {
 }
 
 -- so many opening brackets, the first at this place, and then the rest
-abbrev pub opened : ℕ → ℕ → List Token → List Token
-opened zero place rest = rest
-opened (suc n) place rest = record { kind = kind.Symbol symbol.Open; place = place; spelling = codes "(" } ∷ opened n (place + 1) rest
+abbrev pub opening_brackets : ℕ → ℕ → List Token → List Token
+opening_brackets zero place rest = rest
+opening_brackets (suc n) place rest = record { kind = kind.Symbol symbol.Open; place = place; spelling = codes "(" } ∷ opening_brackets n (place + 1) rest
 
 -- and so with closing ones
-abbrev pub closed : ℕ → ℕ → List Token → List Token
-closed zero place rest = rest
-closed (suc n) place rest = record { kind = kind.Symbol symbol.Close; place = place; spelling = codes ")" } ∷ closed n (place + 1) rest
+abbrev pub closing_brackets : ℕ → ℕ → List Token → List Token
+closing_brackets zero place rest = rest
+closing_brackets (suc n) place rest = record { kind = kind.Symbol symbol.Close; place = place; spelling = codes ")" } ∷ closing_brackets n (place + 1) rest
 
 -- text o {
 abbrev pub output : List Token → List Token
@@ -38,19 +38,19 @@ output rest =
 
 -- text o { ((((..
 abbrev pub brackets_opened : Tokens
-brackets_opened = record { tokens = output (opened 64 9 []); end = 73 }
+brackets_opened = record { tokens = output (opening_brackets 64 9 []); end = 73 }
 
 -- text o { ((((.. 1 ..)))) }
 abbrev pub brackets_closed : Tokens
 brackets_closed = record {
-  tokens = output (opened 63 9 (record { kind = kind.Number 1; place = 72; spelling = codes "1" } ∷ closed 63 73
+  tokens = output (opening_brackets 63 9 (record { kind = kind.Number 1; place = 72; spelling = codes "1" } ∷ closing_brackets 63 73
       (record { kind = kind.Symbol symbol.CloseBrace; place = 137; spelling = codes "}" } ∷ [])));
   end = 138;
 }
 
-abbrev pub grouped : ℕ → DraftTree
-grouped zero = constant (v.Int (pos 1))
-grouped (suc n) = group (grouped n)
+abbrev pub number_in_brackets : ℕ → DraftTree
+number_in_brackets zero = constant (v.Int (pos 1))
+number_in_brackets (suc n) = group (number_in_brackets n)
 
 abbrev pub grouped_output : DraftShape
 grouped_output = record {
@@ -58,6 +58,6 @@ grouped_output = record {
   items = record {
     place = 0;
     name = record { text = codes "o"; place = 5 };
-    form = text (record { priority = pos 0; while_hidden = false; keys = no_trees; body = record { writes = []; term = grouped 63 } });
+    form = text (record { priority = pos 0; while_hidden = false; keys = no_trees; body = record { writes = []; term = number_in_brackets 63 } });
   } ∷ [];
 }

@@ -10,7 +10,8 @@ use Rattle.app_tree.specs.declared.draft_term.Name.{Name}
 use Rattle.app_tree.specs.DraftTree.{DraftTree, WrittenOutput, WrittenForm, input, value, task, reactive, event, text, plot, observe, on, WrittenItem, DraftShape}
 use Rattle.app_tree.specs.DraftView.{draft_trees, draft_acts}
 use Rattle.app_reader.specs.declared.error.ReadError.{ReadError}
-use Rattle.app_reader.specs.State.{Reads, ◌>>=◌, choose, found, place_of, skip, is_word_next, is_symbol_next, is_name_next, is_more, next_word, unexpected, symbol_at, name_at, while_next}
+use Rattle.rx_value.specs.Results.{◌>>=◌, choose}
+use Rattle.app_reader.specs.State.{Reads, choose_some, place_of, skip, is_word_next, is_symbol_next, is_name_next, is_more, next_word, unexpected, symbol_at, name_at, while_next}
 use Rattle.app_reader.specs.Terms.{whole_term_at, bracketed_at, listed_at}
 use Rattle.app_reader.specs.Constants.{constant_at, priority_at, budget_at}
 use Rattle.app_reader.specs.Statements.{body_at, whole_block_at}
@@ -171,7 +172,7 @@ unfoldable pub worded_item_at : Word → Reads WrittenItem
 worded_item_at w s = choose (begins_item w) (named_item_at w) unexpected s
 
 unfoldable pub item_at : Reads WrittenItem
-item_at s = found (next_word s) worded_item_at unexpected s
+item_at s = choose_some (next_word s) worded_item_at unexpected s
 
 -- an item, behind those so far
 unfoldable pub further_item_at : List WrittenItem × Tokens → Result (List WrittenItem × Tokens) ReadError

@@ -1,6 +1,4 @@
 pub mod State
-pub mod Loop
-pub mod View
 pub mod Words
 pub mod Terms
 pub mod Constants
@@ -10,3 +8,4 @@ pub mod Example
 pub mod Spelling
 pub mod Laws
 pub mod Spelled
+pub mod inner

@@ -21,6 +21,7 @@ use Rattle.app_tokens.specs.declared.word.Word.{Word}
 use Rattle.app_tokens.specs.declared.word.Word.TheVariants as word
 use Rattle.app_tokens.specs.declared.symbol.Symbol.{Symbol}
 use Rattle.app_tokens.specs.declared.symbol.Symbol.TheVariants as symbol
+use Rattle.app_tree.specs.declared.limits.TheConstants.{BUDGET_DEFAULT}
 use Rattle.app_tree.specs.declared.item.Flags.{Flags}
 use Rattle.app_tree.specs.declared.term.Operator.{Operator}
 use Rattle.app_tree.specs.declared.term.Operator.TheVariants as operator
@@ -243,7 +244,7 @@ written_budget n rest = a_word word.Budget (a_number n (a_symbol symbol.Semicolo
 
 -- a budget of 1,000 may be left out
 abbrev pub spell_budget : ℕ → Wording → Wording
-spell_budget n rest = if nat_eq n 1000 then either (written_budget n rest) rest else written_budget n rest
+spell_budget n rest = if nat_eq n BUDGET_DEFAULT then either (written_budget n rest) rest else written_budget n rest
 
 -- ---- writes and statements
 

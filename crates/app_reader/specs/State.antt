@@ -1,8 +1,10 @@
 -- Reading tokens from left to right, and the parts of the grammar that are one token.
 --
 -- The grammar is predictive: at each choice, option and repetition the next token decides. A part that reads gives
--- what it read and the tokens that are left, or the first refusal from the left.
-use Rattle.std.specs.Prelude.{◌≡◌, ℕ, zero, suc, Bool, true, false, List, [], ◌∷◌, length, Option, Some, None, Result, Ok, Err}
+-- what it read and the tokens that are left, or the first refusal from the left: a sequence is refused where its first
+-- part that doesn't match is refused.
+use Rattle.std.specs.Prelude.{ℕ, zero, suc, Bool, true, false, List, [], ◌∷◌, length, Option, Some, None, Result, Ok, Err}
+use Rattle.rx_value.specs.Results.{choose, ◌>>=◌}
 use Rattle.app_tokens.specs.declared.token.Token.{Token}
 use Rattle.app_tokens.specs.declared.token.Kind.{Kind}
 use Rattle.app_tokens.specs.declared.token.Kind.TheVariants as kind
@@ -18,44 +20,16 @@ use Rattle.app_reader.specs.declared.error.ReadError.TheVariants as error
 abbrev pub Reads : Type 0 → Type 0
 Reads A = Tokens → Result (A × Tokens) ReadError
 
--- one part after another: a sequence is refused where its first part that doesn't match is refused
-infixl 10 ◌>>=◌
-abbrev pub ◌>>=◌ : {A B : Type 0} → Result A ReadError → (A → Result B ReadError) → Result B ReadError
-(Ok x) >>= f = f x
-(Err e) >>= f = Err e
+-- one of two ways to go on, by whether something is there
+abbrev pub choose_some : {A B C : Type 0} → Option A → (A → B → C) → (B → C) → B → C
+choose_some (Some a) f g x = f a x
+choose_some None f g x = g x
 
--- one of two ways to go on, of which only the chosen one is taken
-abbrev pub choose : {A B : Type 0} → Bool → (A → B) → (A → B) → A → B
-choose true f g x = f x
-choose false f g x = g x
-
--- the way of what was found, or the other one
-abbrev pub found : {A B C : Type 0} → Option A → (A → B → C) → (B → C) → B → C
-found (Some a) f g x = f a x
-found None f g x = g x
-
--- ---- what a function of the code says of it
-
--- the error is the refusal, unless it is want of memory
-abbrev pub Fails : {Y : Type 0} → ReadError → Result Y ReadError → Type 0
-Fails error.Memory read = Unit {0}
-Fails (error.Unexpected place) read = read ≡ Err (error.Unexpected place)
-Fails (error.TooDeep place) read = read ≡ Err (error.TooDeep place)
-
--- what a function returned, seen by the view, and the state that it left, are what reading gives
-abbrev pub Gives : {X Y S : Type 0} → (X → Y) → Result X ReadError → S → Result (Y × S) ReadError → Type 0
-Gives view (Ok x) new read = read ≡ Ok (view x, new)
-Gives view (Err e) new read = Fails e read
-
--- what a function returned, seen by the view, is what reading gives
-abbrev pub Answers : {X Y : Type 0} → (X → Y) → Result X ReadError → Result Y ReadError → Type 0
-Answers view (Ok x) read = read ≡ Ok (view x)
-Answers view (Err e) read = Fails e read
-
--- a step from one state to the next, where it isn't refused
-abbrev pub Steps : {X S : Type 0} → Result X ReadError → S → Result S ReadError → Type 0
-Steps (Ok x) new read = read ≡ Ok new
-Steps (Err e) new read = Fails e read
+-- what an error refuses; None for want of memory
+abbrev pub refusal : ReadError → Option ReadError
+refusal (error.Unexpected place) = Some (error.Unexpected place)
+refusal (error.TooDeep place) = Some (error.TooDeep place)
+refusal error.Memory = None
 
 -- ---- the next token
 
@@ -169,31 +143,31 @@ name_in (t ∷ more) end =
 unfoldable pub name_at : Reads Name
 name_at s = name_in s.tokens s.end
 
-abbrev pub number_of : Kind → ℕ → List Token → ℕ → Result (ℕ × Tokens) ReadError
-number_of (kind.Number n) place more end = Ok (n, record { tokens = more; end = end })
-number_of kind.Name place more end = Err (error.Unexpected place)
-number_of (kind.Word w) place more end = Err (error.Unexpected place)
-number_of (kind.Text t) place more end = Err (error.Unexpected place)
-number_of (kind.Symbol x) place more end = Err (error.Unexpected place)
+abbrev pub number_and_rest : Kind → ℕ → List Token → ℕ → Result (ℕ × Tokens) ReadError
+number_and_rest (kind.Number n) place more end = Ok (n, record { tokens = more; end = end })
+number_and_rest kind.Name place more end = Err (error.Unexpected place)
+number_and_rest (kind.Word w) place more end = Err (error.Unexpected place)
+number_and_rest (kind.Text t) place more end = Err (error.Unexpected place)
+number_and_rest (kind.Symbol x) place more end = Err (error.Unexpected place)
 
 abbrev pub number_in : List Token → ℕ → Result (ℕ × Tokens) ReadError
 number_in [] end = Err (error.Unexpected end)
-number_in (t ∷ more) end = number_of t.kind t.place more end
+number_in (t ∷ more) end = number_and_rest t.kind t.place more end
 
 -- a number without a sign
 unfoldable pub number_at : Reads ℕ
 number_at s = number_in s.tokens s.end
 
-abbrev pub text_of : Kind → ℕ → List Token → ℕ → Result (List ℕ × Tokens) ReadError
-text_of (kind.Text t) place more end = Ok (t, record { tokens = more; end = end })
-text_of kind.Name place more end = Err (error.Unexpected place)
-text_of (kind.Word w) place more end = Err (error.Unexpected place)
-text_of (kind.Number n) place more end = Err (error.Unexpected place)
-text_of (kind.Symbol x) place more end = Err (error.Unexpected place)
+abbrev pub text_and_rest : Kind → ℕ → List Token → ℕ → Result (List ℕ × Tokens) ReadError
+text_and_rest (kind.Text t) place more end = Ok (t, record { tokens = more; end = end })
+text_and_rest kind.Name place more end = Err (error.Unexpected place)
+text_and_rest (kind.Word w) place more end = Err (error.Unexpected place)
+text_and_rest (kind.Number n) place more end = Err (error.Unexpected place)
+text_and_rest (kind.Symbol x) place more end = Err (error.Unexpected place)
 
 abbrev pub text_in : List Token → ℕ → Result (List ℕ × Tokens) ReadError
 text_in [] end = Err (error.Unexpected end)
-text_in (t ∷ more) end = text_of t.kind t.place more end
+text_in (t ∷ more) end = text_and_rest t.kind t.place more end
 
 -- a text, as the bytes that it stands for
 unfoldable pub text_at : Reads (List ℕ)

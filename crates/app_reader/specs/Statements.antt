@@ -6,11 +6,13 @@ use Rattle.app_tokens.specs.declared.word.Word.{Word}
 use Rattle.app_tokens.specs.declared.word.Word.TheVariants as word
 use Rattle.app_tokens.specs.declared.symbol.Symbol.TheVariants as symbol
 use Rattle.app_tokens.specs.Tokens.{Tokens}
+use Rattle.app_tree.specs.declared.limits.TheConstants.{LEVEL_LIMIT}
 use Rattle.app_tree.specs.DraftTree.{DraftTree, DraftDeed, set, invoke, update, freeze, WrittenDeed, DraftAct, write, perform, branch, branch_else, WrittenBody}
 use Rattle.app_tree.specs.DraftView.{draft_trees, draft_acts}
 use Rattle.app_tree.specs.declared.draft_term.Name.{Name}
 use Rattle.app_reader.specs.declared.error.ReadError.{ReadError}
-use Rattle.app_reader.specs.State.{Reads, ◌>>=◌, choose, place_of, skip, is_word_next, next_word, unexpected, too_deep, symbol_at, name_at, while_next}
+use Rattle.rx_value.specs.Results.{◌>>=◌, choose}
+use Rattle.app_reader.specs.State.{Reads, place_of, skip, is_word_next, next_word, unexpected, too_deep, symbol_at, name_at, while_next}
 use Rattle.app_reader.specs.Terms.{whole_term_at, bracketed_at, optional_at}
 
 -- ---- writes
@@ -138,7 +140,7 @@ block_at (suc n) s = block_in (block_at n) s
 
 -- the block of an item
 abbrev pub whole_block_at : Reads (List DraftAct)
-whole_block_at = block_at 64
+whole_block_at = block_at LEVEL_LIMIT
 
 -- ---- bodies
 

@@ -11,6 +11,7 @@ use Rattle.app_tokens.specs.declared.word.Word.TheVariants as word
 use Rattle.app_tokens.specs.declared.symbol.Symbol.{Symbol}
 use Rattle.app_tokens.specs.declared.symbol.Symbol.TheVariants as symbol
 use Rattle.app_tokens.specs.Tokens.{Tokens}
+use Rattle.app_tree.specs.declared.limits.TheConstants.{LEVEL_LIMIT, OPERATOR_LIMIT}
 use Rattle.app_tree.specs.declared.term.Operator.{Operator}
 use Rattle.app_tree.specs.declared.term.Function.{Function}
 use Rattle.app_tree.specs.declared.draft_term.Name.{Name}
@@ -22,7 +23,8 @@ use Rattle.app_tree.specs.Fits.{arguments_of}
 use Rattle.app_reader.specs.declared.error.ReadError.{ReadError}
 use Rattle.app_reader.specs.declared.operators.Rank.{Rank}
 use Rattle.app_reader.specs.declared.operators.Rank.TheVariants as rank
-use Rattle.app_reader.specs.State.{Reads, ◌>>=◌, choose, found, place_of, skip, is_word_next, is_symbol_next, is_name_next, is_text_next, next_word, next_symbol, unexpected, too_deep, word_at, symbol_at, name_at, number_at, text_at, while_next}
+use Rattle.rx_value.specs.Results.{◌>>=◌, choose}
+use Rattle.app_reader.specs.State.{Reads, choose_some, place_of, skip, is_word_next, is_symbol_next, is_name_next, is_text_next, next_word, next_symbol, unexpected, too_deep, word_at, symbol_at, name_at, number_at, text_at, while_next}
 use Rattle.app_reader.specs.Words.{operator_of, sign_of, function_of, read_form_of}
 
 -- ---- names and constants
@@ -202,13 +204,13 @@ special_at term s =
 
 -- what begins with this reserved word
 unfoldable pub worded_at : Reads DraftTree → Word → Reads DraftTree
-worded_at term w = found (function_of w) (call_at term) (found (read_form_of w) read_at (special_at term))
+worded_at term w = choose_some (function_of w) (call_at term) (choose_some (read_form_of w) read_at (special_at term))
 
 unfoldable pub atom_at : Reads DraftTree → Reads DraftTree
 atom_at term s =
     choose (is_symbol_next symbol.Open s) (group_at term)
     (choose (is_name_next s) named_at
-    (found (next_word s) (worded_at term) literal_at)) s
+    (choose_some (next_word s) (worded_at term) literal_at)) s
 
 -- the sign that stands next
 abbrev pub sign_in : Option Symbol → Option UnOp
@@ -220,7 +222,7 @@ next_sign s = sign_in (next_symbol s)
 
 -- ( "-" | "!" ) unary | atom
 unfoldable pub unary_in : Reads DraftTree → Reads DraftTree → Reads DraftTree
-unary_in term operand s = found (next_sign s) (λ op t. operand (skip t) >>= λ u. Ok (unary op u.0, u.1)) (atom_at term) s
+unary_in term operand s = choose_some (next_sign s) (λ op t. operand (skip t) >>= λ u. Ok (unary op u.0, u.1)) (atom_at term) s
 
 -- ---- operators
 
@@ -248,12 +250,12 @@ abbrev pub is_operator_next : Rank → Tokens → Bool
 is_operator_next r s = is_some (next_operator r s)
 
 -- an operator is taken where the term may have one more
-abbrev pub counted : ℕ → Operator → Tokens → Result (Operator × Counted) ReadError
-counted zero o s = too_deep s
-counted (suc n) o s = Ok (o, (n, skip s))
+abbrev pub operator_and_rest : ℕ → Operator → Tokens → Result (Operator × Counted) ReadError
+operator_and_rest zero o s = too_deep s
+operator_and_rest (suc n) o s = Ok (o, (n, skip s))
 
 unfoldable pub operator_at : Rank → Counted → Result (Operator × Counted) ReadError
-operator_at r c = found (next_operator r c.1) (counted c.0) unexpected c.1
+operator_at r c = choose_some (next_operator r c.1) (operator_and_rest c.0) unexpected c.1
 
 -- an operator and its right operand, behind what stands to the left of them
 unfoldable pub right_at : Rank → Operand → DraftTree × Counted → Result (DraftTree × Counted) ReadError
@@ -311,9 +313,9 @@ level_at below rank.Or = or_at below
 
 -- ---- whole terms
 
--- a term of operators, of which it may have 64
+-- a term of operators, of which it may have no more than the limit
 unfoldable pub operation_at : Reads DraftTree → Reads DraftTree
-operation_at below s = or_at below (64, s) >>= λ t. Ok (t.0, t.1.1)
+operation_at below s = or_at below (OPERATOR_LIMIT, s) >>= λ t. Ok (t.0, t.1.1)
 
 -- term "else" term
 unfoldable pub ways_at : Reads DraftTree → Reads (DraftTree × DraftTree)
@@ -345,4 +347,4 @@ unfoldable mutual
 
 -- the whole term of a body, a key, an event, a task or a statement
 abbrev pub whole_term_at : Reads DraftTree
-whole_term_at = term_at 64
+whole_term_at = term_at LEVEL_LIMIT

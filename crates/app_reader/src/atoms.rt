@@ -2,7 +2,8 @@
 
 ghost use Rattle.std.specs.Prelude.{◌≡◌, ◌<◌, ◌≤◌, length, OnOk};
 ghost use Rattle.app_tree.specs.DraftView.{draft_tree_of};
-ghost use Rattle.app_reader.specs.State.{Gives};
+ghost use Rattle.rx_value.specs.Results.{LeavesOrMemory};
+ghost use Rattle.app_reader.specs.State.{refusal};
 ghost use Rattle.app_reader.specs.Terms.{named_at, input_at, read_at, truth_at, word_constant_at, word_term_at, literal_at, cancels_at, inner_name_at, inner_names_at};
 
 use crate::error::ReadError;
@@ -15,7 +16,7 @@ use std::alloc::Global;
 /// `NAME()` or `NAME`.
 #[tactic(auto, unfolding(crate::specs::Terms::named_at))]
 pub fn named(alloc: Global, reader: &mut Reader) -> Result<DraftTerm, ReadError>
-    ensures reads { Gives draft_tree_of result reader.new (named_at reader.old) }
+    ensures reads { LeavesOrMemory draft_tree_of refusal result reader.new (named_at reader.old) }
     ensures shorter { OnOk result (length reader.new.tokens < length reader.old.tokens) }
 {
     let name = reader.name(alloc)?;
@@ -34,7 +35,7 @@ pub fn named(alloc: Global, reader: &mut Reader) -> Result<DraftTerm, ReadError>
 /// `input$NAME`, where `input` stands.
 #[tactic(auto, unfolding(crate::specs::Terms::input_at))]
 pub fn input(alloc: Global, reader: &mut Reader) -> Result<DraftTerm, ReadError>
-    ensures reads { Gives draft_tree_of result reader.new (input_at reader.old) }
+    ensures reads { LeavesOrMemory draft_tree_of refusal result reader.new (input_at reader.old) }
     ensures shorter { OnOk result (length reader.new.tokens < length reader.old.tokens) }
 {
     let place = reader.place();
@@ -51,7 +52,8 @@ pub fn input(alloc: Global, reader: &mut Reader) -> Result<DraftTerm, ReadError>
 /// A name in brackets behind the word that stands there, which reads in this form.
 #[tactic(auto, unfolding(crate::specs::Terms::read_at))]
 pub fn read(alloc: Global, reader: &mut Reader, form: ReadForm) -> Result<DraftTerm, ReadError>
-    ensures reads { Gives draft_tree_of result reader.new (read_at form reader.old) }
+    ensures reads { LeavesOrMemory draft_tree_of refusal result reader.new
+        (read_at form reader.old) }
     ensures shorter { OnOk result (length reader.new.tokens < length reader.old.tokens) }
 {
     let place = reader.place();
@@ -65,7 +67,7 @@ pub fn read(alloc: Global, reader: &mut Reader, form: ReadForm) -> Result<DraftT
 /// `TRUE` or `FALSE`; None for `NULL`.
 #[tactic(auto, unfolding(crate::specs::Terms::truth_at))]
 fn truth(reader: &mut Reader) -> Result<Option<bool>, ReadError>
-    ensures reads { Gives (λ t. t) result reader.new (truth_at reader.old) }
+    ensures reads { LeavesOrMemory (λ t. t) refusal result reader.new (truth_at reader.old) }
     ensures shorter { OnOk result (length reader.new.tokens < length reader.old.tokens) }
 {
     if reader.is_word(Word::True) {
@@ -83,7 +85,8 @@ fn truth(reader: &mut Reader) -> Result<Option<bool>, ReadError>
 /// `TRUE`, `FALSE` or `NULL` as a value.
 #[tactic(auto, unfolding(crate::specs::Terms::word_constant_at))]
 pub fn word_constant(reader: &mut Reader) -> Result<Value, ReadError>
-    ensures reads { Gives (λ k. k) result reader.new (word_constant_at reader.old) }
+    ensures reads { LeavesOrMemory (λ k. k) refusal result reader.new
+        (word_constant_at reader.old) }
     ensures shorter { OnOk result (length reader.new.tokens < length reader.old.tokens) }
 {
     match truth(reader)? {
@@ -95,7 +98,8 @@ pub fn word_constant(reader: &mut Reader) -> Result<Value, ReadError>
 /// `TRUE`, `FALSE` or `NULL` as a term.
 #[tactic(auto, unfolding(crate::specs::Terms::word_term_at))]
 pub fn word_term(reader: &mut Reader) -> Result<DraftTerm, ReadError>
-    ensures reads { Gives draft_tree_of result reader.new (word_term_at reader.old) }
+    ensures reads { LeavesOrMemory draft_tree_of refusal result reader.new
+        (word_term_at reader.old) }
     ensures shorter { OnOk result (length reader.new.tokens < length reader.old.tokens) }
 {
     match truth(reader)? {
@@ -107,7 +111,7 @@ pub fn word_term(reader: &mut Reader) -> Result<DraftTerm, ReadError>
 /// A text or a number.
 #[tactic(auto, unfolding(crate::specs::Terms::literal_at))]
 pub fn literal(alloc: Global, reader: &mut Reader) -> Result<DraftTerm, ReadError>
-    ensures reads { Gives draft_tree_of result reader.new (literal_at reader.old) }
+    ensures reads { LeavesOrMemory draft_tree_of refusal result reader.new (literal_at reader.old) }
     ensures shorter { OnOk result (length reader.new.tokens < length reader.old.tokens) }
 {
     if reader.is_text() {
@@ -120,7 +124,7 @@ pub fn literal(alloc: Global, reader: &mut Reader) -> Result<DraftTerm, ReadErro
 /// `, cancelOutput`, if it stands there.
 #[tactic(auto, unfolding(crate::specs::Terms::cancels_at))]
 pub fn cancels(reader: &mut Reader) -> Result<bool, ReadError>
-    ensures reads { Gives (λ b. b) result reader.new (cancels_at reader.old) }
+    ensures reads { LeavesOrMemory (λ b. b) refusal result reader.new (cancels_at reader.old) }
     ensures shorter { OnOk result (length reader.new.tokens ≤ length reader.old.tokens) }
 {
     if !reader.is_symbol(Symbol::Comma) {
@@ -134,7 +138,7 @@ pub fn cancels(reader: &mut Reader) -> Result<bool, ReadError>
 /// `NAME,`
 #[tactic(auto, unfolding(crate::specs::Terms::inner_name_at))]
 fn inner_name(alloc: Global, reader: &mut Reader) -> Result<Name, ReadError>
-    ensures reads { Gives (λ n. n) result reader.new (inner_name_at reader.old) }
+    ensures reads { LeavesOrMemory (λ n. n) refusal result reader.new (inner_name_at reader.old) }
     ensures shorter { OnOk result (length reader.new.tokens < length reader.old.tokens) }
 {
     let name = reader.name(alloc)?;
@@ -145,7 +149,7 @@ fn inner_name(alloc: Global, reader: &mut Reader) -> Result<Name, ReadError>
 /// `NAME, NAME,`
 #[tactic(auto, unfolding(crate::specs::Terms::inner_names_at))]
 pub fn inner_names(alloc: Global, reader: &mut Reader) -> Result<(Name, Name), ReadError>
-    ensures reads { Gives (λ n. n) result reader.new (inner_names_at reader.old) }
+    ensures reads { LeavesOrMemory (λ n. n) refusal result reader.new (inner_names_at reader.old) }
     ensures shorter { OnOk result (length reader.new.tokens < length reader.old.tokens) }
 {
     let accumulator = inner_name(alloc, reader)?;

@@ -1,7 +1,8 @@
 //! Constants, priorities and the budget.
 
 ghost use Rattle.std.specs.Prelude.{◌≡◌, ◌<◌, ◌≤◌, length, OnOk, IfOk};
-ghost use Rattle.app_reader.specs.State.{Gives, Steps};
+ghost use Rattle.rx_value.specs.Results.{GivesOrMemory, LeavesOrMemory};
+ghost use Rattle.app_reader.specs.State.{refusal};
 ghost use Rattle.app_tree.specs.Fits.{is_budget};
 ghost use Rattle.app_reader.specs.Constants.{signed_at, behind_minus, further_number_at, numbers_at, optional_numbers_at, list_at, is_constant_word_next, constant_at, priority_at, limit_at, budget_at};
 
@@ -9,19 +10,14 @@ use crate::atoms::word_constant;
 use crate::error::ReadError;
 use crate::reader::Reader;
 use app_tokens::{Symbol, Word};
-use rx_value::{RxInts, RxList, Value};
+use app_tree::{BUDGET_DEFAULT, BUDGET_LIMIT};
+use rx_value::{LIST_LIMIT, RxInts, RxList, Value};
 use std::alloc::Global;
-
-/// How many numbers a list may have.
-const MOST_NUMBERS: usize = 1000;
-
-/// The budget where none is written.
-const USUAL_BUDGET: u32 = 1000;
 
 /// A number with or without a minus.
 #[tactic(auto, unfolding(crate::specs::Constants::signed_at))]
 fn signed(reader: &mut Reader) -> Result<i64, ReadError>
-    ensures reads { Gives (λ n. n) result reader.new (signed_at reader.old) }
+    ensures reads { LeavesOrMemory (λ n. n) refusal result reader.new (signed_at reader.old) }
     ensures shorter { OnOk result (length reader.new.tokens < length reader.old.tokens) }
 {
     if reader.is_symbol(Symbol::Minus) {
@@ -44,11 +40,12 @@ fn skip_minus(reader: &mut Reader)
 /// A comma, which stands next, and a further number.
 #[tactic(auto, unfolding(crate::specs::Constants::further_number_at))]
 fn further_number(reader: &mut Reader, numbers: &mut RxInts) -> Result<(), ReadError>
-    ensures reads { Steps result (numbers.new, reader.new) (further_number_at (numbers.old, reader.old)) }
+    ensures reads { GivesOrMemory (λ _. (numbers.new, reader.new)) refusal result
+        (further_number_at (numbers.old, reader.old)) }
     ensures shorter { OnOk result (length reader.new.tokens < length reader.old.tokens) }
 {
     reader.skip();
-    if numbers.len() == MOST_NUMBERS {
+    if numbers.len() == LIST_LIMIT {
         skip_minus(reader);
         return Err(ReadError::Unexpected(reader.place()));
     }
@@ -60,7 +57,7 @@ fn further_number(reader: &mut Reader, numbers: &mut RxInts) -> Result<(), ReadE
 /// One or more numbers, with commas between them.
 #[tactic(auto, unfolding(crate::specs::Constants::numbers_at))]
 fn numbers(alloc: Global, reader: &mut Reader) -> Result<RxInts, ReadError>
-    ensures reads { Gives (λ n. n) result reader.new (numbers_at reader.old) }
+    ensures reads { LeavesOrMemory (λ n. n) refusal result reader.new (numbers_at reader.old) }
     ensures shorter { OnOk result (length reader.new.tokens < length reader.old.tokens) }
 {
     let first = signed(reader)?;
@@ -75,7 +72,8 @@ fn numbers(alloc: Global, reader: &mut Reader) -> Result<RxInts, ReadError>
 /// Numbers, if there are any, before a closing bracket.
 #[tactic(auto, unfolding(crate::specs::Constants::optional_numbers_at))]
 fn optional_numbers(alloc: Global, reader: &mut Reader) -> Result<RxInts, ReadError>
-    ensures reads { Gives (λ n. n) result reader.new (optional_numbers_at reader.old) }
+    ensures reads { LeavesOrMemory (λ n. n) refusal result reader.new
+        (optional_numbers_at reader.old) }
     ensures shorter { OnOk result (length reader.new.tokens ≤ length reader.old.tokens) }
 {
     if reader.is_symbol(Symbol::Close) {
@@ -87,7 +85,7 @@ fn optional_numbers(alloc: Global, reader: &mut Reader) -> Result<RxInts, ReadEr
 /// `c(number, number)`, where `c` stands.
 #[tactic(auto, unfolding(crate::specs::Constants::list_at))]
 fn list(alloc: Global, reader: &mut Reader) -> Result<Value, ReadError>
-    ensures reads { Gives (λ k. k) result reader.new (list_at reader.old) }
+    ensures reads { LeavesOrMemory (λ k. k) refusal result reader.new (list_at reader.old) }
     ensures shorter { OnOk result (length reader.new.tokens < length reader.old.tokens) }
 {
     reader.skip();
@@ -106,7 +104,7 @@ fn is_constant_word_next(reader: &Reader) -> bool
 /// The constant at which an input or a value starts.
 #[tactic(auto, unfolding(crate::specs::Constants::constant_at))]
 pub fn constant(alloc: Global, reader: &mut Reader) -> Result<Value, ReadError>
-    ensures reads { Gives (λ k. k) result reader.new (constant_at reader.old) }
+    ensures reads { LeavesOrMemory (λ k. k) refusal result reader.new (constant_at reader.old) }
     ensures shorter { OnOk result (length reader.new.tokens < length reader.old.tokens) }
 {
     if reader.is_text() {
@@ -124,7 +122,7 @@ pub fn constant(alloc: Global, reader: &mut Reader) -> Result<Value, ReadError>
 /// The priority that is written; 0 where none is.
 #[tactic(auto, unfolding(crate::specs::Constants::priority_at))]
 pub fn priority(reader: &mut Reader) -> Result<i64, ReadError>
-    ensures reads { Gives (λ p. p) result reader.new (priority_at reader.old) }
+    ensures reads { LeavesOrMemory (λ p. p) refusal result reader.new (priority_at reader.old) }
     ensures shorter { OnOk result (length reader.new.tokens ≤ length reader.old.tokens) }
 {
     if reader.is_word(Word::Priority) {
@@ -137,13 +135,13 @@ pub fn priority(reader: &mut Reader) -> Result<i64, ReadError>
 fn is_budget(number: u64) -> bool
     ensures { result ≡ is_budget number }
 {
-    1 <= number && number <= 1_000_000
+    1 <= number && number <= u64::from(BUDGET_LIMIT)
 }
 
 /// The budget's number.
 #[tactic(auto, unfolding(crate::specs::Constants::limit_at))]
 fn limit(reader: &mut Reader) -> Result<u32, ReadError>
-    ensures reads { Gives (λ n. n) result reader.new (limit_at reader.old) }
+    ensures reads { LeavesOrMemory (λ n. n) refusal result reader.new (limit_at reader.old) }
     ensures shorter { OnOk result (length reader.new.tokens < length reader.old.tokens) }
 {
     let place = reader.place();
@@ -157,11 +155,11 @@ fn limit(reader: &mut Reader) -> Result<u32, ReadError>
 /// The budget that is written, from 1 to 1,000,000; 1,000 where none is.
 #[tactic(auto, unfolding(crate::specs::Constants::budget_at))]
 pub fn budget(reader: &mut Reader) -> Result<u32, ReadError>
-    ensures reads { Gives (λ n. n) result reader.new (budget_at reader.old) }
+    ensures reads { LeavesOrMemory (λ n. n) refusal result reader.new (budget_at reader.old) }
     ensures shorter { OnOk result (length reader.new.tokens ≤ length reader.old.tokens) }
 {
     if !reader.is_word(Word::Budget) {
-        return Ok(USUAL_BUDGET);
+        return Ok(BUDGET_DEFAULT);
     }
     reader.skip();
     let limit = limit(reader)?;

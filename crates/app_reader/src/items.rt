@@ -2,8 +2,9 @@
 
 ghost use Rattle.std.specs.Prelude.{◌≡◌, ◌<◌, ◌≤◌, length, OnOk, Ok};
 ghost use Rattle.app_tree.specs.DraftView.{draft_tree_of, written_output, written_form, written_item, draft_shape_of};
-ghost use Rattle.app_reader.specs.State.{Gives, Steps, Answers};
-ghost use Rattle.app_reader.specs.View.{trees_of, items_of, shape_of_parts};
+ghost use Rattle.rx_value.specs.Results.{GivesOrMemory, LeavesOrMemory};
+ghost use Rattle.app_reader.specs.State.{refusal};
+ghost use Rattle.app_reader.specs.inner.View.{trees_of, items_of, shape_of_parts};
 ghost use Rattle.app_reader.specs.Items.{flag_at, flags_at, cache_at, keys_at, further_name_at, names_at, optional_names_at, parameters_at, start_at, input_form_at, value_form_at, task_form_at, reactive_form_at, event_form_at, output_at, text_form_at, plot_form_at, observe_form_at, on_form_at, begins_item, form_at, named_item_at, worded_item_at, item_at, further_item_at, items_at, read_at};
 
 use crate::constants::{budget, constant, priority};
@@ -46,7 +47,7 @@ fn flags(reader: &mut Reader) -> Flags
 /// `cache(term, term)`, where `cache` stands.
 #[tactic(auto, unfolding(crate::specs::Items::cache_at))]
 fn cache(alloc: Global, reader: &mut Reader) -> Result<DraftTerms, ReadError>
-    ensures reads { Gives trees_of result reader.new (cache_at reader.old) }
+    ensures reads { LeavesOrMemory trees_of refusal result reader.new (cache_at reader.old) }
     ensures shorter { OnOk result (length reader.new.tokens ≤ length reader.old.tokens) }
 {
     reader.skip();
@@ -59,7 +60,7 @@ fn cache(alloc: Global, reader: &mut Reader) -> Result<DraftTerms, ReadError>
 /// The keys that are written; none where the item isn't cached.
 #[tactic(auto, unfolding(crate::specs::Items::keys_at))]
 fn keys(alloc: Global, reader: &mut Reader) -> Result<DraftTerms, ReadError>
-    ensures reads { Gives trees_of result reader.new (keys_at reader.old) }
+    ensures reads { LeavesOrMemory trees_of refusal result reader.new (keys_at reader.old) }
     ensures shorter { OnOk result (length reader.new.tokens ≤ length reader.old.tokens) }
 {
     if reader.is_word(Word::Cache) {
@@ -71,7 +72,8 @@ fn keys(alloc: Global, reader: &mut Reader) -> Result<DraftTerms, ReadError>
 /// A comma, which stands next, and a further name.
 #[tactic(auto, unfolding(crate::specs::Items::further_name_at))]
 fn further_name(alloc: Global, reader: &mut Reader, names: &mut Names) -> Result<(), ReadError>
-    ensures reads { Steps result (names.new, reader.new) (further_name_at (names.old, reader.old)) }
+    ensures reads { GivesOrMemory (λ _. (names.new, reader.new)) refusal result
+        (further_name_at (names.old, reader.old)) }
     ensures shorter { OnOk result (length reader.new.tokens < length reader.old.tokens) }
 {
     reader.skip();
@@ -83,7 +85,7 @@ fn further_name(alloc: Global, reader: &mut Reader, names: &mut Names) -> Result
 /// One or more names, with commas between them.
 #[tactic(auto, unfolding(crate::specs::Items::names_at))]
 fn names(alloc: Global, reader: &mut Reader) -> Result<Names, ReadError>
-    ensures reads { Gives (λ n. n) result reader.new (names_at reader.old) }
+    ensures reads { LeavesOrMemory (λ n. n) refusal result reader.new (names_at reader.old) }
     ensures shorter { OnOk result (length reader.new.tokens < length reader.old.tokens) }
 {
     let first = reader.name(alloc)?;
@@ -97,7 +99,8 @@ fn names(alloc: Global, reader: &mut Reader) -> Result<Names, ReadError>
 
 #[tactic(auto, unfolding(crate::specs::Items::optional_names_at))]
 fn optional_names(alloc: Global, reader: &mut Reader) -> Result<Names, ReadError>
-    ensures reads { Gives (λ n. n) result reader.new (optional_names_at reader.old) }
+    ensures reads { LeavesOrMemory (λ n. n) refusal result reader.new
+        (optional_names_at reader.old) }
     ensures shorter { OnOk result (length reader.new.tokens ≤ length reader.old.tokens) }
 {
     if reader.is_name() {
@@ -109,7 +112,7 @@ fn optional_names(alloc: Global, reader: &mut Reader) -> Result<Names, ReadError
 /// A task's parameters in their brackets.
 #[tactic(auto, unfolding(crate::specs::Items::parameters_at))]
 fn parameters(alloc: Global, reader: &mut Reader) -> Result<Names, ReadError>
-    ensures reads { Gives (λ n. n) result reader.new (parameters_at reader.old) }
+    ensures reads { LeavesOrMemory (λ n. n) refusal result reader.new (parameters_at reader.old) }
     ensures shorter { OnOk result (length reader.new.tokens ≤ length reader.old.tokens) }
 {
     reader.symbol(Symbol::Open)?;
@@ -121,7 +124,7 @@ fn parameters(alloc: Global, reader: &mut Reader) -> Result<Names, ReadError>
 /// `= const;`
 #[tactic(auto, unfolding(crate::specs::Items::start_at))]
 fn start(alloc: Global, reader: &mut Reader) -> Result<Value, ReadError>
-    ensures reads { Gives (λ k. k) result reader.new (start_at reader.old) }
+    ensures reads { LeavesOrMemory (λ k. k) refusal result reader.new (start_at reader.old) }
     ensures shorter { OnOk result (length reader.new.tokens ≤ length reader.old.tokens) }
 {
     reader.symbol(Symbol::Assign)?;
@@ -132,7 +135,8 @@ fn start(alloc: Global, reader: &mut Reader) -> Result<Value, ReadError>
 
 #[tactic(auto, unfolding(crate::specs::Items::input_form_at))]
 fn input(alloc: Global, reader: &mut Reader) -> Result<DraftForm, ReadError>
-    ensures reads { Gives written_form result reader.new (input_form_at reader.old) }
+    ensures reads { LeavesOrMemory written_form refusal result reader.new
+        (input_form_at reader.old) }
     ensures shorter { OnOk result (length reader.new.tokens ≤ length reader.old.tokens) }
 {
     Ok(DraftForm::Input(start(alloc, reader)?))
@@ -140,7 +144,8 @@ fn input(alloc: Global, reader: &mut Reader) -> Result<DraftForm, ReadError>
 
 #[tactic(auto, unfolding(crate::specs::Items::value_form_at))]
 fn value(alloc: Global, reader: &mut Reader) -> Result<DraftForm, ReadError>
-    ensures reads { Gives written_form result reader.new (value_form_at reader.old) }
+    ensures reads { LeavesOrMemory written_form refusal result reader.new
+        (value_form_at reader.old) }
     ensures shorter { OnOk result (length reader.new.tokens ≤ length reader.old.tokens) }
 {
     Ok(DraftForm::Value(start(alloc, reader)?))
@@ -148,7 +153,8 @@ fn value(alloc: Global, reader: &mut Reader) -> Result<DraftForm, ReadError>
 
 #[tactic(auto, unfolding(crate::specs::Items::task_form_at))]
 fn task(alloc: Global, reader: &mut Reader) -> Result<DraftForm, ReadError>
-    ensures reads { Gives written_form result reader.new (task_form_at reader.old) }
+    ensures reads { LeavesOrMemory written_form refusal result reader.new
+        (task_form_at reader.old) }
     ensures shorter { OnOk result (length reader.new.tokens ≤ length reader.old.tokens) }
 {
     let parameters = parameters(alloc, reader)?;
@@ -160,7 +166,8 @@ fn task(alloc: Global, reader: &mut Reader) -> Result<DraftForm, ReadError>
 
 #[tactic(auto, unfolding(crate::specs::Items::reactive_form_at))]
 fn reactive(alloc: Global, reader: &mut Reader) -> Result<DraftForm, ReadError>
-    ensures reads { Gives written_form result reader.new (reactive_form_at reader.old) }
+    ensures reads { LeavesOrMemory written_form refusal result reader.new
+        (reactive_form_at reader.old) }
     ensures shorter { OnOk result (length reader.new.tokens ≤ length reader.old.tokens) }
 {
     let keys = keys(alloc, reader)?;
@@ -170,7 +177,8 @@ fn reactive(alloc: Global, reader: &mut Reader) -> Result<DraftForm, ReadError>
 
 #[tactic(auto, unfolding(crate::specs::Items::event_form_at))]
 fn event(alloc: Global, reader: &mut Reader) -> Result<DraftForm, ReadError>
-    ensures reads { Gives written_form result reader.new (event_form_at reader.old) }
+    ensures reads { LeavesOrMemory written_form refusal result reader.new
+        (event_form_at reader.old) }
     ensures shorter { OnOk result (length reader.new.tokens ≤ length reader.old.tokens) }
 {
     let flags = flags(reader);
@@ -182,7 +190,7 @@ fn event(alloc: Global, reader: &mut Reader) -> Result<DraftForm, ReadError>
 /// What stands behind the name of `text` and `plot`.
 #[tactic(auto, unfolding(crate::specs::Items::output_at))]
 fn output(alloc: Global, reader: &mut Reader) -> Result<DraftOutput, ReadError>
-    ensures reads { Gives written_output result reader.new (output_at reader.old) }
+    ensures reads { LeavesOrMemory written_output refusal result reader.new (output_at reader.old) }
     ensures shorter { OnOk result (length reader.new.tokens ≤ length reader.old.tokens) }
 {
     let priority = priority(reader)?;
@@ -199,7 +207,8 @@ fn output(alloc: Global, reader: &mut Reader) -> Result<DraftOutput, ReadError>
 
 #[tactic(auto, unfolding(crate::specs::Items::text_form_at))]
 fn text(alloc: Global, reader: &mut Reader) -> Result<DraftForm, ReadError>
-    ensures reads { Gives written_form result reader.new (text_form_at reader.old) }
+    ensures reads { LeavesOrMemory written_form refusal result reader.new
+        (text_form_at reader.old) }
     ensures shorter { OnOk result (length reader.new.tokens ≤ length reader.old.tokens) }
 {
     Ok(DraftForm::Text(output(alloc, reader)?))
@@ -207,7 +216,8 @@ fn text(alloc: Global, reader: &mut Reader) -> Result<DraftForm, ReadError>
 
 #[tactic(auto, unfolding(crate::specs::Items::plot_form_at))]
 fn plot(alloc: Global, reader: &mut Reader) -> Result<DraftForm, ReadError>
-    ensures reads { Gives written_form result reader.new (plot_form_at reader.old) }
+    ensures reads { LeavesOrMemory written_form refusal result reader.new
+        (plot_form_at reader.old) }
     ensures shorter { OnOk result (length reader.new.tokens ≤ length reader.old.tokens) }
 {
     Ok(DraftForm::Plot(output(alloc, reader)?))
@@ -215,7 +225,8 @@ fn plot(alloc: Global, reader: &mut Reader) -> Result<DraftForm, ReadError>
 
 #[tactic(auto, unfolding(crate::specs::Items::observe_form_at))]
 fn observe(alloc: Global, reader: &mut Reader) -> Result<DraftForm, ReadError>
-    ensures reads { Gives written_form result reader.new (observe_form_at reader.old) }
+    ensures reads { LeavesOrMemory written_form refusal result reader.new
+        (observe_form_at reader.old) }
     ensures shorter { OnOk result (length reader.new.tokens ≤ length reader.old.tokens) }
 {
     let priority = priority(reader)?;
@@ -225,7 +236,7 @@ fn observe(alloc: Global, reader: &mut Reader) -> Result<DraftForm, ReadError>
 
 #[tactic(auto, unfolding(crate::specs::Items::on_form_at))]
 fn on(alloc: Global, reader: &mut Reader) -> Result<DraftForm, ReadError>
-    ensures reads { Gives written_form result reader.new (on_form_at reader.old) }
+    ensures reads { LeavesOrMemory written_form refusal result reader.new (on_form_at reader.old) }
     ensures shorter { OnOk result (length reader.new.tokens ≤ length reader.old.tokens) }
 {
     let priority = priority(reader)?;
@@ -259,7 +270,8 @@ fn begins_item(word: Word) -> bool
 
 /// What the item's first word asks for behind the name.
 fn form(alloc: Global, reader: &mut Reader, word: Word) -> Result<DraftForm, ReadError>
-    ensures reads { Gives written_form result reader.new (form_at word reader.old) }
+    ensures reads { LeavesOrMemory written_form refusal result reader.new
+        (form_at word reader.old) }
     ensures shorter { OnOk result (length reader.new.tokens ≤ length reader.old.tokens) }
 {
     match word {
@@ -278,7 +290,8 @@ fn form(alloc: Global, reader: &mut Reader, word: Word) -> Result<DraftForm, Rea
 
 #[tactic(auto, unfolding(crate::specs::Items::named_item_at))]
 fn named_item(alloc: Global, reader: &mut Reader, word: Word) -> Result<DraftItem, ReadError>
-    ensures reads { Gives written_item result reader.new (named_item_at word reader.old) }
+    ensures reads { LeavesOrMemory written_item refusal result reader.new
+        (named_item_at word reader.old) }
     ensures shorter { OnOk result (length reader.new.tokens < length reader.old.tokens) }
 {
     let place = reader.place();
@@ -290,7 +303,8 @@ fn named_item(alloc: Global, reader: &mut Reader, word: Word) -> Result<DraftIte
 
 #[tactic(auto, unfolding(crate::specs::Items::worded_item_at))]
 fn worded_item(alloc: Global, reader: &mut Reader, word: Word) -> Result<DraftItem, ReadError>
-    ensures reads { Gives written_item result reader.new (worded_item_at word reader.old) }
+    ensures reads { LeavesOrMemory written_item refusal result reader.new
+        (worded_item_at word reader.old) }
     ensures shorter { OnOk result (length reader.new.tokens < length reader.old.tokens) }
 {
     if begins_item(word) {
@@ -301,7 +315,7 @@ fn worded_item(alloc: Global, reader: &mut Reader, word: Word) -> Result<DraftIt
 
 #[tactic(auto, unfolding(crate::specs::Items::item_at))]
 fn item(alloc: Global, reader: &mut Reader) -> Result<DraftItem, ReadError>
-    ensures reads { Gives written_item result reader.new (item_at reader.old) }
+    ensures reads { LeavesOrMemory written_item refusal result reader.new (item_at reader.old) }
     ensures shorter { OnOk result (length reader.new.tokens < length reader.old.tokens) }
 {
     match reader.next_word() {
@@ -312,7 +326,8 @@ fn item(alloc: Global, reader: &mut Reader) -> Result<DraftItem, ReadError>
 
 #[tactic(auto, unfolding(crate::specs::Items::further_item_at))]
 fn further_item(alloc: Global, reader: &mut Reader, items: &mut DraftItems) -> Result<(), ReadError>
-    ensures reads { Steps result (items_of items.new, reader.new) (further_item_at (items_of items.old, reader.old)) }
+    ensures reads { GivesOrMemory (λ _. (items_of items.new, reader.new)) refusal result
+        (further_item_at (items_of items.old, reader.old)) }
     ensures shorter { OnOk result (length reader.new.tokens < length reader.old.tokens) }
 {
     let item = item(alloc, reader)?;
@@ -323,7 +338,7 @@ fn further_item(alloc: Global, reader: &mut Reader, items: &mut DraftItems) -> R
 /// Items up to the end of the text.
 #[tactic(auto, unfolding(crate::specs::Items::items_at))]
 fn items(alloc: Global, reader: &mut Reader) -> Result<DraftItems, ReadError>
-    ensures { Gives items_of result reader.new (items_at reader.old) }
+    ensures { LeavesOrMemory items_of refusal result reader.new (items_at reader.old) }
 {
     let mut items = RxList::new(alloc);
     'items: while reader.is_more() {
@@ -335,7 +350,7 @@ fn items(alloc: Global, reader: &mut Reader) -> Result<DraftItems, ReadError>
 /// The budget and the items that the tokens of an app file stand for.
 #[tactic(auto, unfolding(crate::specs::Items::read_at))]
 fn parts(alloc: Global, tokens: &TokenList<'_>) -> Result<(u32, DraftItems), ReadError>
-    ensures { Answers shape_of_parts result (read_at tokens.now) }
+    ensures { GivesOrMemory shape_of_parts refusal result (read_at tokens.now) }
 {
     let mut reader = Reader::new(tokens);
     let budget = budget(&mut reader)?;
@@ -345,7 +360,7 @@ fn parts(alloc: Global, tokens: &TokenList<'_>) -> Result<(u32, DraftItems), Rea
 
 /// The draft that the tokens of an app file stand for. The refusal is the first from the left.
 pub fn read(alloc: Global, tokens: &TokenList<'_>) -> Result<Draft, ReadError>
-    ensures { Answers draft_shape_of result (read_at tokens.now) }
+    ensures { GivesOrMemory draft_shape_of refusal result (read_at tokens.now) }
 {
     tokens.know_cut();
     let (budget, items) = parts(alloc, tokens)?;

@@ -15,8 +15,6 @@ mod operators;
 mod reader;
 mod statements;
 mod terms;
-#[cfg(test)]
-mod tests;
 
 pub use error::ReadError;
 pub use examples::{worked_examples, worked_limits, worked_spellings};

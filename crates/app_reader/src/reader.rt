@@ -1,8 +1,9 @@
 //! A cursor over tokens.
 
 ghost use Rattle.std.specs.Prelude.{◌≡◌, ◌<◌, ◌≤◌, length, OnOk};
-ghost use Rattle.app_reader.specs.State.{Gives, place_of, skip, is_word_next, is_symbol_next, is_name_next, is_text_next, is_name, is_text, is_more, word_of, symbol_of, next_word, next_symbol, word_at, symbol_at, name_at, number_at, text_at};
-ghost use Rattle.app_reader.specs.View.{number_now};
+ghost use Rattle.rx_value.specs.Results.{LeavesOrMemory};
+ghost use Rattle.app_reader.specs.State.{place_of, skip, is_word_next, is_symbol_next, is_name_next, is_text_next, is_name, is_text, is_more, word_of, symbol_of, next_word, next_symbol, word_at, symbol_at, name_at, number_at, text_at, refusal};
+ghost use Rattle.app_reader.specs.inner.View.{number_now};
 
 use crate::error::ReadError;
 use app_tokens::{Kind, Number, Symbol, Token, TokenList, Word};
@@ -166,7 +167,7 @@ impl<'a> Reader<'a, '_> {
     /// Goes past this word, which has to stand next.
     #[tactic(auto, unfolding(crate::specs::State::word_at))]
     pub fn word(&mut self, word: Word) -> Result<(), ReadError>
-        ensures reads { Gives (λ u. u) result self.new (word_at word self.old) }
+        ensures reads { LeavesOrMemory (λ u. u) refusal result self.new (word_at word self.old) }
         ensures shorter { OnOk result (length self.new.tokens < length self.old.tokens) }
     {
         if !self.is_word(word) {
@@ -179,7 +180,8 @@ impl<'a> Reader<'a, '_> {
     /// Goes past this symbol, which has to stand next.
     #[tactic(auto, unfolding(crate::specs::State::symbol_at))]
     pub fn symbol(&mut self, symbol: Symbol) -> Result<(), ReadError>
-        ensures reads { Gives (λ u. u) result self.new (symbol_at symbol self.old) }
+        ensures reads { LeavesOrMemory (λ u. u) refusal result self.new
+            (symbol_at symbol self.old) }
         ensures shorter { OnOk result (length self.new.tokens < length self.old.tokens) }
     {
         if !self.is_symbol(symbol) {
@@ -192,7 +194,7 @@ impl<'a> Reader<'a, '_> {
     /// The name that has to stand next.
     #[tactic(auto, unfolding(crate::specs::State::name_at))]
     pub fn name(&mut self, alloc: Global) -> Result<Name, ReadError>
-        ensures reads { Gives (λ n. n) result self.new (name_at self.old) }
+        ensures reads { LeavesOrMemory (λ n. n) refusal result self.new (name_at self.old) }
         ensures shorter { OnOk result (length self.new.tokens < length self.old.tokens) }
     {
         match self.tokens {
@@ -214,7 +216,7 @@ impl<'a> Reader<'a, '_> {
     /// The number that has to stand next.
     #[tactic(auto, unfolding(crate::specs::State::number_at))]
     pub fn number(&mut self) -> Result<&'a Number, ReadError>
-        ensures reads { Gives number_now result self.new (number_at self.old) }
+        ensures reads { LeavesOrMemory number_now refusal result self.new (number_at self.old) }
         ensures shorter { OnOk result (length self.new.tokens < length self.old.tokens) }
     {
         match self.tokens {
@@ -234,7 +236,7 @@ impl<'a> Reader<'a, '_> {
     /// A copy of the text that has to stand next.
     #[tactic(auto, unfolding(crate::specs::State::text_at))]
     pub fn text(&mut self, alloc: Global) -> Result<RxText, ReadError>
-        ensures reads { Gives (λ t. t) result self.new (text_at self.old) }
+        ensures reads { LeavesOrMemory (λ t. t) refusal result self.new (text_at self.old) }
         ensures shorter { OnOk result (length self.new.tokens < length self.old.tokens) }
     {
         match self.tokens {

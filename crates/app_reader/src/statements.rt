@@ -2,8 +2,9 @@
 
 ghost use Rattle.std.specs.Prelude.{◌≡◌, ◌<◌, ◌≤◌, length, OnOk};
 ghost use Rattle.app_tree.specs.DraftView.{draft_tree_of, draft_act_of, deed_of, write_of, written_body};
-ghost use Rattle.app_reader.specs.State.{Gives, Steps};
-ghost use Rattle.app_reader.specs.View.{assigned_of, trees_of, acts_of, deeds_of};
+ghost use Rattle.rx_value.specs.Results.{GivesOrMemory, LeavesOrMemory};
+ghost use Rattle.app_reader.specs.State.{refusal};
+ghost use Rattle.app_reader.specs.inner.View.{assigned_of, trees_of, acts_of, deeds_of};
 ghost use Rattle.app_reader.specs.Statements.{assigned_at, set_at, update_at, sent_at, invoke_at, freeze_at, deed_at, write_at, begins_write, begins_statement, is_write_next, is_statement_next, do_at, branch_at, statement_at, further_statement_at, statements_at, block_in, block_at, whole_block_at, further_write_at, writes_at, body_at};
 
 use crate::error::ReadError;
@@ -12,19 +13,16 @@ use crate::terms::{whole_bracketed, whole_optional, whole_term};
 use app_tokens::{Symbol, Word};
 use app_tree::{
     DraftAction, DraftBlock, DraftBody, DraftStatement, DraftTerm, DraftTerms, DraftWrite,
-    DraftWrites, Name,
+    DraftWrites, LEVEL_LIMIT, Name,
 };
 use rx_value::RxList;
 use sqlite_items::Items;
 use std::alloc::Global;
 
-/// How many levels an item's block has.
-const LEVELS: u32 = 64;
-
 /// `NAME = term;`
 #[tactic(auto, unfolding(crate::specs::Statements::assigned_at))]
 fn assigned(alloc: Global, reader: &mut Reader) -> Result<(Name, DraftTerm), ReadError>
-    ensures reads { Gives assigned_of result reader.new (assigned_at reader.old) }
+    ensures reads { LeavesOrMemory assigned_of refusal result reader.new (assigned_at reader.old) }
     ensures shorter { OnOk result (length reader.new.tokens < length reader.old.tokens) }
 {
     let name = reader.name(alloc)?;
@@ -36,7 +34,7 @@ fn assigned(alloc: Global, reader: &mut Reader) -> Result<(Name, DraftTerm), Rea
 
 #[tactic(auto, unfolding(crate::specs::Statements::set_at))]
 fn set(alloc: Global, reader: &mut Reader) -> Result<DraftAction, ReadError>
-    ensures reads { Gives deed_of result reader.new (set_at reader.old) }
+    ensures reads { LeavesOrMemory deed_of refusal result reader.new (set_at reader.old) }
     ensures shorter { OnOk result (length reader.new.tokens < length reader.old.tokens) }
 {
     reader.skip();
@@ -46,7 +44,7 @@ fn set(alloc: Global, reader: &mut Reader) -> Result<DraftAction, ReadError>
 
 #[tactic(auto, unfolding(crate::specs::Statements::update_at))]
 fn update(alloc: Global, reader: &mut Reader) -> Result<DraftAction, ReadError>
-    ensures reads { Gives deed_of result reader.new (update_at reader.old) }
+    ensures reads { LeavesOrMemory deed_of refusal result reader.new (update_at reader.old) }
     ensures shorter { OnOk result (length reader.new.tokens < length reader.old.tokens) }
 {
     reader.skip();
@@ -57,7 +55,7 @@ fn update(alloc: Global, reader: &mut Reader) -> Result<DraftAction, ReadError>
 /// The arguments of `invoke` in their brackets.
 #[tactic(auto, unfolding(crate::specs::Statements::sent_at))]
 fn sent(alloc: Global, reader: &mut Reader) -> Result<DraftTerms, ReadError>
-    ensures reads { Gives trees_of result reader.new (sent_at reader.old) }
+    ensures reads { LeavesOrMemory trees_of refusal result reader.new (sent_at reader.old) }
     ensures shorter { OnOk result (length reader.new.tokens < length reader.old.tokens) }
 {
     reader.symbol(Symbol::Open)?;
@@ -68,7 +66,7 @@ fn sent(alloc: Global, reader: &mut Reader) -> Result<DraftTerms, ReadError>
 
 #[tactic(auto, unfolding(crate::specs::Statements::invoke_at))]
 fn invoke(alloc: Global, reader: &mut Reader) -> Result<DraftAction, ReadError>
-    ensures reads { Gives deed_of result reader.new (invoke_at reader.old) }
+    ensures reads { LeavesOrMemory deed_of refusal result reader.new (invoke_at reader.old) }
     ensures shorter { OnOk result (length reader.new.tokens < length reader.old.tokens) }
 {
     reader.skip();
@@ -80,7 +78,7 @@ fn invoke(alloc: Global, reader: &mut Reader) -> Result<DraftAction, ReadError>
 
 #[tactic(auto, unfolding(crate::specs::Statements::freeze_at))]
 fn freeze(alloc: Global, reader: &mut Reader) -> Result<DraftAction, ReadError>
-    ensures reads { Gives deed_of result reader.new (freeze_at reader.old) }
+    ensures reads { LeavesOrMemory deed_of refusal result reader.new (freeze_at reader.old) }
     ensures shorter { OnOk result (length reader.new.tokens < length reader.old.tokens) }
 {
     reader.skip();
@@ -91,7 +89,7 @@ fn freeze(alloc: Global, reader: &mut Reader) -> Result<DraftAction, ReadError>
 
 #[tactic(auto, unfolding(crate::specs::Statements::deed_at))]
 fn action(alloc: Global, reader: &mut Reader) -> Result<DraftAction, ReadError>
-    ensures reads { Gives deed_of result reader.new (deed_at reader.old) }
+    ensures reads { LeavesOrMemory deed_of refusal result reader.new (deed_at reader.old) }
     ensures shorter { OnOk result (length reader.new.tokens < length reader.old.tokens) }
 {
     if reader.is_word(Word::Set) {
@@ -111,7 +109,7 @@ fn action(alloc: Global, reader: &mut Reader) -> Result<DraftAction, ReadError>
 
 #[tactic(auto, unfolding(crate::specs::Statements::write_at))]
 fn write(alloc: Global, reader: &mut Reader) -> Result<DraftWrite, ReadError>
-    ensures reads { Gives write_of result reader.new (write_at reader.old) }
+    ensures reads { LeavesOrMemory write_of refusal result reader.new (write_at reader.old) }
     ensures shorter { OnOk result (length reader.new.tokens < length reader.old.tokens) }
 {
     let place = reader.place();
@@ -158,7 +156,7 @@ fn is_statement_next(reader: &Reader) -> bool
 /// `do term;`, where `do` stands.
 #[tactic(auto, unfolding(crate::specs::Statements::do_at))]
 fn perform(alloc: Global, reader: &mut Reader) -> Result<DraftStatement, ReadError>
-    ensures reads { Gives draft_act_of result reader.new (do_at reader.old) }
+    ensures reads { LeavesOrMemory draft_act_of refusal result reader.new (do_at reader.old) }
     ensures shorter { OnOk result (length reader.new.tokens < length reader.old.tokens) }
 {
     reader.skip();
@@ -172,7 +170,8 @@ fn perform(alloc: Global, reader: &mut Reader) -> Result<DraftStatement, ReadErr
 #[cycle(block)]
 #[tactic(auto, unfolding(crate::specs::Statements::branch_at))]
 fn branch(alloc: Global, reader: &mut Reader, below: u32) -> Result<DraftStatement, ReadError>
-    ensures reads { Gives draft_act_of result reader.new (branch_at (block_at below) reader.old) }
+    ensures reads { LeavesOrMemory draft_act_of refusal result reader.new
+        (branch_at (block_at below) reader.old) }
     ensures shorter { OnOk result (length reader.new.tokens < length reader.old.tokens) }
 {
     reader.skip();
@@ -189,7 +188,8 @@ fn branch(alloc: Global, reader: &mut Reader, below: u32) -> Result<DraftStateme
 #[cycle(block)]
 #[tactic(auto, unfolding(crate::specs::Statements::statement_at))]
 fn statement(alloc: Global, reader: &mut Reader, below: u32) -> Result<DraftStatement, ReadError>
-    ensures reads { Gives draft_act_of result reader.new (statement_at (block_at below) reader.old) }
+    ensures reads { LeavesOrMemory draft_act_of refusal result reader.new
+        (statement_at (block_at below) reader.old) }
     ensures shorter { OnOk result (length reader.new.tokens < length reader.old.tokens) }
 {
     if reader.is_word(Word::Do) {
@@ -209,7 +209,8 @@ fn further_statement(
     below: u32,
     statements: &mut DraftBlock,
 ) -> Result<(), ReadError>
-    ensures reads { Steps result (acts_of statements.new, reader.new) (further_statement_at (block_at below) (acts_of statements.old, reader.old)) }
+    ensures reads { GivesOrMemory (λ _. (acts_of statements.new, reader.new)) refusal result
+        (further_statement_at (block_at below) (acts_of statements.old, reader.old)) }
     ensures shorter { OnOk result (length reader.new.tokens < length reader.old.tokens) }
 {
     let statement = statement(alloc, reader, below)?;
@@ -220,7 +221,8 @@ fn further_statement(
 #[cycle(block)]
 #[tactic(auto, unfolding(crate::specs::Statements::statements_at))]
 fn statements(alloc: Global, reader: &mut Reader, below: u32) -> Result<DraftBlock, ReadError>
-    ensures reads { Gives acts_of result reader.new (statements_at (block_at below) reader.old) }
+    ensures reads { LeavesOrMemory acts_of refusal result reader.new
+        (statements_at (block_at below) reader.old) }
     ensures shorter { OnOk result (length reader.new.tokens ≤ length reader.old.tokens) }
 {
     let mut statements = Items::new(alloc);
@@ -233,7 +235,8 @@ fn statements(alloc: Global, reader: &mut Reader, below: u32) -> Result<DraftBlo
 #[cycle(block)]
 #[tactic(auto, unfolding(crate::specs::Statements::block_in))]
 fn block_inside(alloc: Global, reader: &mut Reader, below: u32) -> Result<DraftBlock, ReadError>
-    ensures reads { Gives acts_of result reader.new (block_in (block_at below) reader.old) }
+    ensures reads { LeavesOrMemory acts_of refusal result reader.new
+        (block_in (block_at below) reader.old) }
     ensures shorter { OnOk result (length reader.new.tokens < length reader.old.tokens) }
 {
     reader.symbol(Symbol::OpenBrace)?;
@@ -246,7 +249,7 @@ fn block_inside(alloc: Global, reader: &mut Reader, below: u32) -> Result<DraftB
 #[cycle(block)]
 #[tactic(auto, unfolding(crate::specs::Statements::block_at))]
 fn block(alloc: Global, reader: &mut Reader, levels: u32) -> Result<DraftBlock, ReadError>
-    ensures reads { Gives acts_of result reader.new (block_at levels reader.old) }
+    ensures reads { LeavesOrMemory acts_of refusal result reader.new (block_at levels reader.old) }
     ensures shorter { OnOk result (length reader.new.tokens < length reader.old.tokens) }
 {
     if levels == 0 {
@@ -257,10 +260,10 @@ fn block(alloc: Global, reader: &mut Reader, levels: u32) -> Result<DraftBlock, 
 
 /// The block of an item.
 pub fn whole_block(alloc: Global, reader: &mut Reader) -> Result<DraftBlock, ReadError>
-    ensures reads { Gives acts_of result reader.new (whole_block_at reader.old) }
+    ensures reads { LeavesOrMemory acts_of refusal result reader.new (whole_block_at reader.old) }
     ensures shorter { OnOk result (length reader.new.tokens < length reader.old.tokens) }
 {
-    block(alloc, reader, LEVELS)
+    block(alloc, reader, LEVEL_LIMIT)
 }
 
 #[tactic(auto, unfolding(crate::specs::Statements::further_write_at))]
@@ -269,7 +272,8 @@ fn further_write(
     reader: &mut Reader,
     writes: &mut DraftWrites,
 ) -> Result<(), ReadError>
-    ensures reads { Steps result (deeds_of writes.new, reader.new) (further_write_at (deeds_of writes.old, reader.old)) }
+    ensures reads { GivesOrMemory (λ _. (deeds_of writes.new, reader.new)) refusal result
+        (further_write_at (deeds_of writes.old, reader.old)) }
     ensures shorter { OnOk result (length reader.new.tokens < length reader.old.tokens) }
 {
     let write = write(alloc, reader)?;
@@ -279,7 +283,7 @@ fn further_write(
 
 #[tactic(auto, unfolding(crate::specs::Statements::writes_at))]
 fn writes(alloc: Global, reader: &mut Reader) -> Result<DraftWrites, ReadError>
-    ensures reads { Gives deeds_of result reader.new (writes_at reader.old) }
+    ensures reads { LeavesOrMemory deeds_of refusal result reader.new (writes_at reader.old) }
     ensures shorter { OnOk result (length reader.new.tokens ≤ length reader.old.tokens) }
 {
     let mut writes = RxList::new(alloc);
@@ -292,7 +296,7 @@ fn writes(alloc: Global, reader: &mut Reader) -> Result<DraftWrites, ReadError>
 /// A body in its braces.
 #[tactic(auto, unfolding(crate::specs::Statements::body_at))]
 pub fn body(alloc: Global, reader: &mut Reader) -> Result<DraftBody, ReadError>
-    ensures reads { Gives written_body result reader.new (body_at reader.old) }
+    ensures reads { LeavesOrMemory written_body refusal result reader.new (body_at reader.old) }
     ensures shorter { OnOk result (length reader.new.tokens < length reader.old.tokens) }
 {
     reader.symbol(Symbol::OpenBrace)?;

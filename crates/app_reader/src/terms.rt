@@ -2,27 +2,23 @@
 //!
 //! `below` is the number of levels that a term inside the one that is read may have.
 
-ghost use Rattle.std.specs.Prelude.{◌≡◌, ◌<◌, ◌≤◌, length, OnOk, nat_lt};
+ghost use Rattle.std.specs.Prelude.{◌≡◌, ◌<◌, ◌≤◌, length, OnOk, Ok, nat_lt};
 ghost use Rattle.app_tree.specs.DraftView.{draft_tree_of};
-ghost use Rattle.app_reader.specs.State.{Gives, Steps};
+ghost use Rattle.app_tree.specs.DraftTree.{binary};
+ghost use Rattle.rx_value.specs.Results.{GivesOrMemory, LeavesOrMemory};
+ghost use Rattle.app_reader.specs.State.{refusal};
 ghost use Rattle.app_reader.specs.Terms.{bracketed_at, group_at, isolate_at, stop_at, require_at, part_at, last_part_at, fold_at, fold_start_at, further_at, listed_at, counted_at, optional_at, arguments_at, call_at, special_at, worded_at, atom_at, next_sign, unary_in, next_operator, is_operator_next, operator_at, right_at, chain_at, once_at, operand_at, or_at, operation_at, ways_at, choice_at, term_in, term_at, unary_at, level_at, whole_term_at};
-ghost use Rattle.app_reader.specs.View.{trees_of, ways_of};
+ghost use Rattle.app_reader.specs.inner.View.{trees_of, ways_of};
 
 use crate::atoms::{cancels, inner_names, input, literal, named, read, word_term};
 use crate::error::ReadError;
 use crate::operators::{Rank, count_of, function_of, operator_of, read_form_of, sign_of};
 use crate::reader::Reader;
 use app_tokens::{Symbol, Word};
-use app_tree::{DraftTerm, DraftTerms, Function, Operator};
+use app_tree::{DraftTerm, DraftTerms, Function, LEVEL_LIMIT, OPERATOR_LIMIT, Operator};
 use rx_value::UnOp;
 use sqlite_items::{Boxed, Items};
 use std::alloc::Global;
-
-/// How many levels a whole term has.
-const LEVELS: u32 = 64;
-
-/// How many operators a whole term may have outside its brackets.
-const OPERATORS: u32 = 64;
 
 fn next_sign(reader: &Reader) -> Option<UnOp>
     ensures { result ≡ next_sign reader.now }
@@ -62,7 +58,8 @@ fn is_fewer(terms: &DraftTerms, count: usize) -> bool
 /// The operator that has to stand next. `room` is how many the term may still have.
 #[tactic(auto, unfolding(crate::specs::Terms::operator_at))]
 fn operator(reader: &mut Reader, room: &mut u32, rank: Rank) -> Result<Operator, ReadError>
-    ensures reads { Gives (λ o. o) result (room.new, reader.new) (operator_at rank (room.old, reader.old)) }
+    ensures reads { LeavesOrMemory (λ o. o) refusal result (room.new, reader.new)
+        (operator_at rank (room.old, reader.old)) }
     ensures shorter { OnOk result (length reader.new.tokens ≤ length reader.old.tokens) }
 {
     let Some(operator) = next_operator(reader, rank) else {
@@ -76,11 +73,23 @@ fn operator(reader: &mut Reader, room: &mut u32, rank: Rank) -> Result<Operator,
     Ok(operator)
 }
 
+/// A term with so many levels, on the heap.
+#[cycle(term)]
+fn inner(alloc: Global, reader: &mut Reader, levels: u32) -> Result<Boxed<DraftTerm>, ReadError>
+    ensures reads { LeavesOrMemory draft_tree_of refusal result reader.new
+        (term_at levels reader.old) }
+    ensures shorter { OnOk result (length reader.new.tokens < length reader.old.tokens) }
+{
+    let term = term(alloc, reader, levels)?;
+    Ok(Boxed::new(alloc, term)?)
+}
+
 /// A term with so many levels.
 #[cycle(term)]
 #[tactic(auto, unfolding(crate::specs::Terms::term_at))]
 fn term(alloc: Global, reader: &mut Reader, levels: u32) -> Result<DraftTerm, ReadError>
-    ensures reads { Gives draft_tree_of result reader.new (term_at levels reader.old) }
+    ensures reads { LeavesOrMemory draft_tree_of refusal result reader.new
+        (term_at levels reader.old) }
     ensures shorter { OnOk result (length reader.new.tokens < length reader.old.tokens) }
 {
     if levels == 0 {
@@ -92,7 +101,8 @@ fn term(alloc: Global, reader: &mut Reader, levels: u32) -> Result<DraftTerm, Re
 #[cycle(term)]
 #[tactic(auto, unfolding(crate::specs::Terms::term_in))]
 fn term_inside(alloc: Global, reader: &mut Reader, below: u32) -> Result<DraftTerm, ReadError>
-    ensures reads { Gives draft_tree_of result reader.new (term_in (term_at below) (unary_at below) reader.old) }
+    ensures reads { LeavesOrMemory draft_tree_of refusal result reader.new
+        (term_in (term_at below) (unary_at below) reader.old) }
     ensures shorter { OnOk result (length reader.new.tokens < length reader.old.tokens) }
 {
     if reader.is_word(Word::If) {
@@ -105,29 +115,35 @@ fn term_inside(alloc: Global, reader: &mut Reader, below: u32) -> Result<DraftTe
 #[cycle(term)]
 #[tactic(auto, unfolding(crate::specs::Terms::choice_at))]
 fn choice(alloc: Global, reader: &mut Reader, below: u32) -> Result<DraftTerm, ReadError>
-    ensures reads { Gives draft_tree_of result reader.new (choice_at (term_at below) reader.old) }
+    ensures reads { LeavesOrMemory draft_tree_of refusal result reader.new
+        (choice_at (term_at below) reader.old) }
     ensures shorter { OnOk result (length reader.new.tokens < length reader.old.tokens) }
 {
     reader.skip();
     let condition = bracketed(alloc, reader, below)?;
     let (chosen, otherwise) = ways(alloc, reader, below)?;
     Ok(DraftTerm::If {
-        condition: Boxed::new(alloc, condition)?,
-        chosen: Boxed::new(alloc, chosen)?,
-        otherwise: Boxed::new(alloc, otherwise)?,
+        condition,
+        chosen,
+        otherwise,
     })
 }
 
 /// `term else term`
 #[cycle(term)]
 #[tactic(auto, unfolding(crate::specs::Terms::ways_at))]
-fn ways(alloc: Global, reader: &mut Reader, below: u32) -> Result<(DraftTerm, DraftTerm), ReadError>
-    ensures reads { Gives ways_of result reader.new (ways_at (term_at below) reader.old) }
+fn ways(
+    alloc: Global,
+    reader: &mut Reader,
+    below: u32,
+) -> Result<(Boxed<DraftTerm>, Boxed<DraftTerm>), ReadError>
+    ensures reads { LeavesOrMemory ways_of refusal result reader.new
+        (ways_at (term_at below) reader.old) }
     ensures shorter { OnOk result (length reader.new.tokens < length reader.old.tokens) }
 {
-    let chosen = term(alloc, reader, below)?;
+    let chosen = inner(alloc, reader, below)?;
     reader.word(Word::Else)?;
-    let otherwise = term(alloc, reader, below)?;
+    let otherwise = inner(alloc, reader, below)?;
     Ok((chosen, otherwise))
 }
 
@@ -135,10 +151,11 @@ fn ways(alloc: Global, reader: &mut Reader, below: u32) -> Result<(DraftTerm, Dr
 #[cycle(term)]
 #[tactic(auto, unfolding(crate::specs::Terms::operation_at))]
 fn operation(alloc: Global, reader: &mut Reader, below: u32) -> Result<DraftTerm, ReadError>
-    ensures reads { Gives draft_tree_of result reader.new (operation_at (unary_in (term_at below) (unary_at below)) reader.old) }
+    ensures reads { LeavesOrMemory draft_tree_of refusal result reader.new
+        (operation_at (unary_in (term_at below) (unary_at below)) reader.old) }
     ensures shorter { OnOk result (length reader.new.tokens < length reader.old.tokens) }
 {
-    let mut room = OPERATORS;
+    let mut room = OPERATOR_LIMIT;
     level(alloc, reader, below, &mut room, Rank::Or)
 }
 
@@ -151,7 +168,8 @@ fn level(
     room: &mut u32,
     rank: Rank,
 ) -> Result<DraftTerm, ReadError>
-    ensures reads { Gives draft_tree_of result (room.new, reader.new) (level_at (unary_in (term_at below) (unary_at below)) rank (room.old, reader.old)) }
+    ensures reads { LeavesOrMemory draft_tree_of refusal result (room.new, reader.new)
+        (level_at (unary_in (term_at below) (unary_at below)) rank (room.old, reader.old)) }
     ensures shorter { OnOk result (length reader.new.tokens < length reader.old.tokens) }
 {
     match rank {
@@ -170,7 +188,8 @@ fn chain(
     room: &mut u32,
     rank: Rank,
 ) -> Result<DraftTerm, ReadError>
-    ensures reads { Gives draft_tree_of result (room.new, reader.new) (chain_at rank (operand_at (unary_in (term_at below) (unary_at below)) rank) (room.old, reader.old)) }
+    ensures reads { LeavesOrMemory draft_tree_of refusal result (room.new, reader.new)
+        (chain_at rank (operand_at (unary_in (term_at below) (unary_at below)) rank) (room.old, reader.old)) }
     ensures shorter { OnOk result (length reader.new.tokens < length reader.old.tokens) }
 {
     let mut left = operand(alloc, reader, below, room, rank)?;
@@ -190,7 +209,8 @@ fn once(
     room: &mut u32,
     rank: Rank,
 ) -> Result<DraftTerm, ReadError>
-    ensures reads { Gives draft_tree_of result (room.new, reader.new) (once_at rank (operand_at (unary_in (term_at below) (unary_at below)) rank) (room.old, reader.old)) }
+    ensures reads { LeavesOrMemory draft_tree_of refusal result (room.new, reader.new)
+        (once_at rank (operand_at (unary_in (term_at below) (unary_at below)) rank) (room.old, reader.old)) }
     ensures shorter { OnOk result (length reader.new.tokens < length reader.old.tokens) }
 {
     let left = operand(alloc, reader, below, room, rank)?;
@@ -198,6 +218,19 @@ fn once(
         return right(alloc, reader, below, room, rank, left);
     }
     Ok(left)
+}
+
+/// The term of an operator between its operands.
+fn operator_term(
+    alloc: Global,
+    operator: Operator,
+    left: DraftTerm,
+    right: Boxed<DraftTerm>,
+) -> Result<DraftTerm, ReadError>
+    ensures { GivesOrMemory draft_tree_of refusal result
+        (Ok (binary operator (draft_tree_of left) (draft_tree_of right))) }
+{
+    Ok(DraftTerm::Binary(operator, Boxed::new(alloc, left)?, right))
 }
 
 /// An operator of this rank and its right operand, behind its left one.
@@ -211,16 +244,32 @@ fn right(
     rank: Rank,
     left: DraftTerm,
 ) -> Result<DraftTerm, ReadError>
-    ensures reads { Gives draft_tree_of result (room.new, reader.new) (right_at rank (operand_at (unary_in (term_at below) (unary_at below)) rank) (draft_tree_of left, (room.old, reader.old))) }
+    ensures reads { LeavesOrMemory draft_tree_of refusal result (room.new, reader.new)
+        (right_at rank (operand_at (unary_in (term_at below) (unary_at below)) rank)
+        (draft_tree_of left, (room.old, reader.old))) }
     ensures shorter { OnOk result (length reader.new.tokens < length reader.old.tokens) }
 {
     let operator = operator(reader, room, rank)?;
-    let right = operand(alloc, reader, below, room, rank)?;
-    Ok(DraftTerm::Binary(
-        operator,
-        Boxed::new(alloc, left)?,
-        Boxed::new(alloc, right)?,
-    ))
+    let right = inner_operand(alloc, reader, below, room, rank)?;
+    let term = operator_term(alloc, operator, left, right)?;
+    Ok(term)
+}
+
+/// What stands between operators of this rank, on the heap.
+#[cycle(term)]
+fn inner_operand(
+    alloc: Global,
+    reader: &mut Reader,
+    below: u32,
+    room: &mut u32,
+    rank: Rank,
+) -> Result<Boxed<DraftTerm>, ReadError>
+    ensures reads { LeavesOrMemory draft_tree_of refusal result (room.new, reader.new)
+        (operand_at (unary_in (term_at below) (unary_at below)) rank (room.old, reader.old)) }
+    ensures shorter { OnOk result (length reader.new.tokens < length reader.old.tokens) }
+{
+    let operand = operand(alloc, reader, below, room, rank)?;
+    Ok(Boxed::new(alloc, operand)?)
 }
 
 /// What stands between operators of this rank.
@@ -232,7 +281,8 @@ fn operand(
     room: &mut u32,
     rank: Rank,
 ) -> Result<DraftTerm, ReadError>
-    ensures reads { Gives draft_tree_of result (room.new, reader.new) (operand_at (unary_in (term_at below) (unary_at below)) rank (room.old, reader.old)) }
+    ensures reads { LeavesOrMemory draft_tree_of refusal result (room.new, reader.new)
+        (operand_at (unary_in (term_at below) (unary_at below)) rank (room.old, reader.old)) }
     ensures shorter { OnOk result (length reader.new.tokens < length reader.old.tokens) }
 {
     match rank {
@@ -248,7 +298,8 @@ fn operand(
 #[cycle(term)]
 #[tactic(auto, unfolding(crate::specs::Terms::unary_at))]
 fn unary(alloc: Global, reader: &mut Reader, levels: u32) -> Result<DraftTerm, ReadError>
-    ensures reads { Gives draft_tree_of result reader.new (unary_at levels reader.old) }
+    ensures reads { LeavesOrMemory draft_tree_of refusal result reader.new
+        (unary_at levels reader.old) }
     ensures shorter { OnOk result (length reader.new.tokens < length reader.old.tokens) }
 {
     if levels == 0 {
@@ -260,7 +311,8 @@ fn unary(alloc: Global, reader: &mut Reader, levels: u32) -> Result<DraftTerm, R
 #[cycle(term)]
 #[tactic(auto, unfolding(crate::specs::Terms::unary_in))]
 fn unary_inside(alloc: Global, reader: &mut Reader, below: u32) -> Result<DraftTerm, ReadError>
-    ensures reads { Gives draft_tree_of result reader.new (unary_in (term_at below) (unary_at below) reader.old) }
+    ensures reads { LeavesOrMemory draft_tree_of refusal result reader.new
+        (unary_in (term_at below) (unary_at below) reader.old) }
     ensures shorter { OnOk result (length reader.new.tokens < length reader.old.tokens) }
 {
     if let Some(sign) = next_sign(reader) {
@@ -274,7 +326,8 @@ fn unary_inside(alloc: Global, reader: &mut Reader, below: u32) -> Result<DraftT
 #[cycle(term)]
 #[tactic(auto, unfolding(crate::specs::Terms::atom_at))]
 fn atom(alloc: Global, reader: &mut Reader, below: u32) -> Result<DraftTerm, ReadError>
-    ensures reads { Gives draft_tree_of result reader.new (atom_at (term_at below) reader.old) }
+    ensures reads { LeavesOrMemory draft_tree_of refusal result reader.new
+        (atom_at (term_at below) reader.old) }
     ensures shorter { OnOk result (length reader.new.tokens < length reader.old.tokens) }
 {
     if reader.is_symbol(Symbol::Open) {
@@ -298,7 +351,8 @@ fn worded(
     below: u32,
     word: Word,
 ) -> Result<DraftTerm, ReadError>
-    ensures reads { Gives draft_tree_of result reader.new (worded_at (term_at below) word reader.old) }
+    ensures reads { LeavesOrMemory draft_tree_of refusal result reader.new
+        (worded_at (term_at below) word reader.old) }
     ensures shorter { OnOk result (length reader.new.tokens < length reader.old.tokens) }
 {
     if let Some(function) = function_of(word) {
@@ -314,7 +368,8 @@ fn worded(
 #[cycle(term)]
 #[tactic(auto, unfolding(crate::specs::Terms::special_at))]
 fn special(alloc: Global, reader: &mut Reader, below: u32) -> Result<DraftTerm, ReadError>
-    ensures reads { Gives draft_tree_of result reader.new (special_at (term_at below) reader.old) }
+    ensures reads { LeavesOrMemory draft_tree_of refusal result reader.new
+        (special_at (term_at below) reader.old) }
     ensures shorter { OnOk result (length reader.new.tokens < length reader.old.tokens) }
 {
     if reader.is_word(Word::Input) {
@@ -338,12 +393,13 @@ fn special(alloc: Global, reader: &mut Reader, below: u32) -> Result<DraftTerm, 
 /// `(term)`
 #[cycle(term)]
 #[tactic(auto, unfolding(crate::specs::Terms::bracketed_at))]
-fn bracketed(alloc: Global, reader: &mut Reader, below: u32) -> Result<DraftTerm, ReadError>
-    ensures reads { Gives draft_tree_of result reader.new (bracketed_at (term_at below) reader.old) }
+fn bracketed(alloc: Global, reader: &mut Reader, below: u32) -> Result<Boxed<DraftTerm>, ReadError>
+    ensures reads { LeavesOrMemory draft_tree_of refusal result reader.new
+        (bracketed_at (term_at below) reader.old) }
     ensures shorter { OnOk result (length reader.new.tokens < length reader.old.tokens) }
 {
     reader.symbol(Symbol::Open)?;
-    let inner = term(alloc, reader, below)?;
+    let inner = inner(alloc, reader, below)?;
     reader.symbol(Symbol::Close)?;
     Ok(inner)
 }
@@ -351,61 +407,61 @@ fn bracketed(alloc: Global, reader: &mut Reader, below: u32) -> Result<DraftTerm
 #[cycle(term)]
 #[tactic(auto, unfolding(crate::specs::Terms::group_at))]
 fn group(alloc: Global, reader: &mut Reader, below: u32) -> Result<DraftTerm, ReadError>
-    ensures reads { Gives draft_tree_of result reader.new (group_at (term_at below) reader.old) }
+    ensures reads { LeavesOrMemory draft_tree_of refusal result reader.new
+        (group_at (term_at below) reader.old) }
     ensures shorter { OnOk result (length reader.new.tokens < length reader.old.tokens) }
 {
-    let inner = bracketed(alloc, reader, below)?;
-    Ok(DraftTerm::Group(Boxed::new(alloc, inner)?))
+    Ok(DraftTerm::Group(bracketed(alloc, reader, below)?))
 }
 
 /// `isolate(term)`, where `isolate` stands.
 #[cycle(term)]
 #[tactic(auto, unfolding(crate::specs::Terms::isolate_at))]
 fn isolate(alloc: Global, reader: &mut Reader, below: u32) -> Result<DraftTerm, ReadError>
-    ensures reads { Gives draft_tree_of result reader.new (isolate_at (term_at below) reader.old) }
+    ensures reads { LeavesOrMemory draft_tree_of refusal result reader.new
+        (isolate_at (term_at below) reader.old) }
     ensures shorter { OnOk result (length reader.new.tokens < length reader.old.tokens) }
 {
     let place = reader.place();
     reader.skip();
     let inner = bracketed(alloc, reader, below)?;
-    Ok(DraftTerm::Isolate(place, Boxed::new(alloc, inner)?))
+    Ok(DraftTerm::Isolate(place, inner))
 }
 
 /// `stop(term)`, where `stop` stands.
 #[cycle(term)]
 #[tactic(auto, unfolding(crate::specs::Terms::stop_at))]
 fn stop(alloc: Global, reader: &mut Reader, below: u32) -> Result<DraftTerm, ReadError>
-    ensures reads { Gives draft_tree_of result reader.new (stop_at (term_at below) reader.old) }
+    ensures reads { LeavesOrMemory draft_tree_of refusal result reader.new
+        (stop_at (term_at below) reader.old) }
     ensures shorter { OnOk result (length reader.new.tokens < length reader.old.tokens) }
 {
     reader.skip();
-    let inner = bracketed(alloc, reader, below)?;
-    Ok(DraftTerm::Stop(Boxed::new(alloc, inner)?))
+    Ok(DraftTerm::Stop(bracketed(alloc, reader, below)?))
 }
 
 /// `req(term)` or `req(term, cancelOutput)`, where `req` stands.
 #[cycle(term)]
 #[tactic(auto, unfolding(crate::specs::Terms::require_at))]
 fn require(alloc: Global, reader: &mut Reader, below: u32) -> Result<DraftTerm, ReadError>
-    ensures reads { Gives draft_tree_of result reader.new (require_at (term_at below) reader.old) }
+    ensures reads { LeavesOrMemory draft_tree_of refusal result reader.new
+        (require_at (term_at below) reader.old) }
     ensures shorter { OnOk result (length reader.new.tokens < length reader.old.tokens) }
 {
     reader.skip();
     reader.symbol(Symbol::Open)?;
-    let inner = term(alloc, reader, below)?;
+    let term = inner(alloc, reader, below)?;
     let cancels = cancels(reader)?;
     reader.symbol(Symbol::Close)?;
-    Ok(DraftTerm::Require {
-        term: Boxed::new(alloc, inner)?,
-        cancels,
-    })
+    Ok(DraftTerm::Require { term, cancels })
 }
 
 /// `fold(term, term, NAME, NAME, term)`, where `fold` stands.
 #[cycle(term)]
 #[tactic(auto, unfolding(crate::specs::Terms::fold_at))]
 fn fold(alloc: Global, reader: &mut Reader, below: u32) -> Result<DraftTerm, ReadError>
-    ensures reads { Gives draft_tree_of result reader.new (fold_at (term_at below) reader.old) }
+    ensures reads { LeavesOrMemory draft_tree_of refusal result reader.new
+        (fold_at (term_at below) reader.old) }
     ensures shorter { OnOk result (length reader.new.tokens < length reader.old.tokens) }
 {
     let place = reader.place();
@@ -419,7 +475,7 @@ fn fold(alloc: Global, reader: &mut Reader, below: u32) -> Result<DraftTerm, Rea
         start,
         accumulator,
         element,
-        body: Boxed::new(alloc, body)?,
+        body,
     })
 }
 
@@ -431,23 +487,25 @@ fn fold_start(
     reader: &mut Reader,
     below: u32,
 ) -> Result<(Boxed<DraftTerm>, Boxed<DraftTerm>), ReadError>
-    ensures reads { Gives ways_of result reader.new (fold_start_at (term_at below) reader.old) }
+    ensures reads { LeavesOrMemory ways_of refusal result reader.new
+        (fold_start_at (term_at below) reader.old) }
     ensures shorter { OnOk result (length reader.new.tokens < length reader.old.tokens) }
 {
     reader.symbol(Symbol::Open)?;
     let list = part(alloc, reader, below)?;
     let start = part(alloc, reader, below)?;
-    Ok((Boxed::new(alloc, list)?, Boxed::new(alloc, start)?))
+    Ok((list, start))
 }
 
 /// `term,`
 #[cycle(term)]
 #[tactic(auto, unfolding(crate::specs::Terms::part_at))]
-fn part(alloc: Global, reader: &mut Reader, below: u32) -> Result<DraftTerm, ReadError>
-    ensures reads { Gives draft_tree_of result reader.new (part_at (term_at below) reader.old) }
+fn part(alloc: Global, reader: &mut Reader, below: u32) -> Result<Boxed<DraftTerm>, ReadError>
+    ensures reads { LeavesOrMemory draft_tree_of refusal result reader.new
+        (part_at (term_at below) reader.old) }
     ensures shorter { OnOk result (length reader.new.tokens < length reader.old.tokens) }
 {
-    let part = term(alloc, reader, below)?;
+    let part = inner(alloc, reader, below)?;
     reader.symbol(Symbol::Comma)?;
     Ok(part)
 }
@@ -455,11 +513,12 @@ fn part(alloc: Global, reader: &mut Reader, below: u32) -> Result<DraftTerm, Rea
 /// `term)`
 #[cycle(term)]
 #[tactic(auto, unfolding(crate::specs::Terms::last_part_at))]
-fn last_part(alloc: Global, reader: &mut Reader, below: u32) -> Result<DraftTerm, ReadError>
-    ensures reads { Gives draft_tree_of result reader.new (last_part_at (term_at below) reader.old) }
+fn last_part(alloc: Global, reader: &mut Reader, below: u32) -> Result<Boxed<DraftTerm>, ReadError>
+    ensures reads { LeavesOrMemory draft_tree_of refusal result reader.new
+        (last_part_at (term_at below) reader.old) }
     ensures shorter { OnOk result (length reader.new.tokens < length reader.old.tokens) }
 {
-    let part = term(alloc, reader, below)?;
+    let part = inner(alloc, reader, below)?;
     reader.symbol(Symbol::Close)?;
     Ok(part)
 }
@@ -473,7 +532,8 @@ fn call(
     below: u32,
     function: Function,
 ) -> Result<DraftTerm, ReadError>
-    ensures reads { Gives draft_tree_of result reader.new (call_at (term_at below) function reader.old) }
+    ensures reads { LeavesOrMemory draft_tree_of refusal result reader.new
+        (call_at (term_at below) function reader.old) }
     ensures shorter { OnOk result (length reader.new.tokens < length reader.old.tokens) }
 {
     reader.skip();
@@ -491,7 +551,8 @@ fn arguments(
     below: u32,
     count: Option<usize>,
 ) -> Result<DraftTerms, ReadError>
-    ensures reads { Gives trees_of result reader.new (arguments_at (term_at below) count reader.old) }
+    ensures reads { LeavesOrMemory trees_of refusal result reader.new
+        (arguments_at (term_at below) count reader.old) }
     ensures shorter { OnOk result (length reader.new.tokens ≤ length reader.old.tokens) }
 {
     match count {
@@ -509,7 +570,8 @@ fn counted(
     below: u32,
     count: usize,
 ) -> Result<DraftTerms, ReadError>
-    ensures reads { Gives trees_of result reader.new (counted_at (term_at below) count reader.old) }
+    ensures reads { LeavesOrMemory trees_of refusal result reader.new
+        (counted_at (term_at below) count reader.old) }
     ensures shorter { OnOk result (length reader.new.tokens < length reader.old.tokens) }
 {
     let first = term(alloc, reader, below)?;
@@ -525,7 +587,8 @@ fn counted(
 #[cycle(term)]
 #[tactic(auto, unfolding(crate::specs::Terms::optional_at))]
 fn optional(alloc: Global, reader: &mut Reader, below: u32) -> Result<DraftTerms, ReadError>
-    ensures reads { Gives trees_of result reader.new (optional_at (term_at below) reader.old) }
+    ensures reads { LeavesOrMemory trees_of refusal result reader.new
+        (optional_at (term_at below) reader.old) }
     ensures shorter { OnOk result (length reader.new.tokens ≤ length reader.old.tokens) }
 {
     if reader.is_symbol(Symbol::Close) {
@@ -538,7 +601,8 @@ fn optional(alloc: Global, reader: &mut Reader, below: u32) -> Result<DraftTerms
 #[cycle(term)]
 #[tactic(auto, unfolding(crate::specs::Terms::listed_at))]
 fn listed(alloc: Global, reader: &mut Reader, below: u32) -> Result<DraftTerms, ReadError>
-    ensures reads { Gives trees_of result reader.new (listed_at (term_at below) reader.old) }
+    ensures reads { LeavesOrMemory trees_of refusal result reader.new
+        (listed_at (term_at below) reader.old) }
     ensures shorter { OnOk result (length reader.new.tokens < length reader.old.tokens) }
 {
     let first = term(alloc, reader, below)?;
@@ -559,7 +623,8 @@ fn further(
     below: u32,
     terms: &mut DraftTerms,
 ) -> Result<(), ReadError>
-    ensures reads { Steps result (trees_of terms.new, reader.new) (further_at (term_at below) (trees_of terms.old, reader.old)) }
+    ensures reads { GivesOrMemory (λ _. (trees_of terms.new, reader.new)) refusal result
+        (further_at (term_at below) (trees_of terms.old, reader.old)) }
     ensures shorter { OnOk result (length reader.new.tokens < length reader.old.tokens) }
 {
     reader.symbol(Symbol::Comma)?;
@@ -570,32 +635,40 @@ fn further(
 
 /// The whole term of a body, a key, an event, a task or a statement.
 pub fn whole_term(alloc: Global, reader: &mut Reader) -> Result<DraftTerm, ReadError>
-    ensures reads { Gives draft_tree_of result reader.new (whole_term_at reader.old) }
+    ensures reads { LeavesOrMemory draft_tree_of refusal result reader.new
+        (whole_term_at reader.old) }
     ensures shorter { OnOk result (length reader.new.tokens < length reader.old.tokens) }
 {
-    term(alloc, reader, LEVELS)
+    term(alloc, reader, LEVEL_LIMIT)
 }
 
 /// A whole term in brackets.
+#[tactic(auto, unfolding(crate::specs::Terms::bracketed_at))]
 pub fn whole_bracketed(alloc: Global, reader: &mut Reader) -> Result<DraftTerm, ReadError>
-    ensures reads { Gives draft_tree_of result reader.new (bracketed_at whole_term_at reader.old) }
+    ensures reads { LeavesOrMemory draft_tree_of refusal result reader.new
+        (bracketed_at whole_term_at reader.old) }
     ensures shorter { OnOk result (length reader.new.tokens < length reader.old.tokens) }
 {
-    bracketed(alloc, reader, LEVELS)
+    reader.symbol(Symbol::Open)?;
+    let inner = term(alloc, reader, LEVEL_LIMIT)?;
+    reader.symbol(Symbol::Close)?;
+    Ok(inner)
 }
 
 /// Any number of whole terms before a closing bracket.
 pub fn whole_optional(alloc: Global, reader: &mut Reader) -> Result<DraftTerms, ReadError>
-    ensures reads { Gives trees_of result reader.new (optional_at whole_term_at reader.old) }
+    ensures reads { LeavesOrMemory trees_of refusal result reader.new
+        (optional_at whole_term_at reader.old) }
     ensures shorter { OnOk result (length reader.new.tokens ≤ length reader.old.tokens) }
 {
-    optional(alloc, reader, LEVELS)
+    optional(alloc, reader, LEVEL_LIMIT)
 }
 
 /// One or more whole terms, with commas between them.
 pub fn whole_listed(alloc: Global, reader: &mut Reader) -> Result<DraftTerms, ReadError>
-    ensures reads { Gives trees_of result reader.new (listed_at whole_term_at reader.old) }
+    ensures reads { LeavesOrMemory trees_of refusal result reader.new
+        (listed_at whole_term_at reader.old) }
     ensures shorter { OnOk result (length reader.new.tokens < length reader.old.tokens) }
 {
-    listed(alloc, reader, LEVELS)
+    listed(alloc, reader, LEVEL_LIMIT)
 }

@@ -1,6 +1,6 @@
 -- Bytes that spell a token, and are followed by what doesn't go on with it, are read as this token.
 use Rattle.std.proofs.Common.{◌≡◌, ℕ, ◌+◌, ◌-◌, ◌≤◌, List, [], ◌∷◌, ◌++◌, length, refl, ap, ◌∙◌, arith, Bool, true, false, ◌&&◌, nat_eq, nat_le, Some, None, Ok}
-use Rattle.std.specs.Prelude.{take_while, if◌then◌else◌}
+use Rattle.std.specs.Prelude.{⊤, take_while, if◌then◌else◌}
 use Rattle.std.specs.List.{list_all}
 use Rattle.std.proofs.lemmas.List.Sums.{take_while-cons}
 use Rattle.app_tokens.specs.declared.symbol.Symbol.{Symbol}
@@ -8,23 +8,20 @@ use Rattle.app_tokens.specs.declared.symbol.Symbol.TheVariants as symbol
 use Rattle.app_tokens.specs.declared.token.Kind.TheVariants as kind
 use Rattle.app_tokens.specs.Symbol.{symbol_of, sized_or, one_byte_symbol, two_byte_symbol}
 use Rattle.rx_value.specs.Names.{is_letter, is_digit, is_of_word}
+use Rattle.std.proofs.Math.Bool.{and-eq-true_iff}
+use Rattle.rx_value.specs.declared.limits.TheConstants.{TEXT_LIMIT, GREATEST_NUMBER}
 use Rattle.app_tokens.specs.Scan.{gap, token, is_blank, value_after, word_piece, number_piece, text_piece, text_from, is_pair, meaning_of, symbol_piece, piece_of}
 
 abbrev pub begins_with : (ℕ → Bool) → List ℕ → Bool
 begins_with p [] = false
 begins_with p (b ∷ bs) = p b
 
-both : (a b : Bool) → a && b ≡ true → (a ≡ true) × (b ≡ true)
-both true true e = (refl, refl)
-both true false e = cc
-both false b e = cc
-
 -- the bytes that pass, up to one that doesn't
 pub take_while-append : (p : ℕ → Bool) (xs rest : List ℕ) → list_all p xs ≡ true → begins_with p rest ≡ false → take_while p (xs ++ rest) ≡ xs
 take_while-append p [] [] all stop = refl
 take_while-append p [] (b ∷ rest) all stop = rw (take_while-cons p b rest, stop) refl
 take_while-append p (x ∷ xs) rest all stop =
-    let h = both (p x) (list_all p xs) all in
+    let h = (and-eq-true_iff (p x) (list_all p xs)).0 all in
     rw (take_while-cons p x (xs ++ rest), h.0) (ap (λ (ys : List ℕ). x ∷ ys) (take_while-append p xs rest h.1 stop))
 
 pub piece_of-blank : (whole : Bool) (place b : ℕ) (rest : List ℕ) → is_blank b ≡ true → piece_of whole place (b ∷ rest) ≡ Ok (gap 1)
@@ -61,17 +58,17 @@ unfolding piece_of
 piece_of-digit whole place b bs digit =
     let n = not_blank b (digit_of_word b digit) in rw (n.0, n.1, digit_no_letter b digit, digit) refl
 
-number_piece-fits : (place : ℕ) (digits : List ℕ) → value_after 0 digits ≤ 9223372036854775807
+number_piece-fits : (place : ℕ) (digits : List ℕ) → value_after 0 digits ≤ GREATEST_NUMBER
     → number_piece place digits ≡ Ok (token (length digits) (kind.Number (value_after 0 digits)))
 unfolding number_piece
 number_piece-fits place digits le = rw (fits (value_after 0 digits) le) refl
   where
-    fits : (v : ℕ) → v ≤ 9223372036854775807 → nat_le v 9223372036854775807 ≡ true
+    fits : (v : ℕ) → v ≤ GREATEST_NUMBER → nat_le v GREATEST_NUMBER ≡ true
     fits v le = grind arith
 
 -- a number
 pub piece_of-number : (whole : Bool) (place b : ℕ) (more rest : List ℕ) → is_digit b ≡ true → list_all is_digit more ≡ true
-    → begins_with is_digit rest ≡ false → value_after 0 (b ∷ more) ≤ 9223372036854775807
+    → begins_with is_digit rest ≡ false → value_after 0 (b ∷ more) ≤ GREATEST_NUMBER
     → piece_of whole place (b ∷ (more ++ rest)) ≡ Ok (token (length (b ∷ more)) (kind.Number (value_after 0 (b ∷ more))))
 piece_of-number whole place b more rest digit all stop le =
     piece_of-digit whole place b (more ++ rest) digit
@@ -79,11 +76,11 @@ piece_of-number whole place b more rest digit all stop le =
 
 -- a text, by what its inside gives
 pub piece_of-text : (whole : Bool) (place : ℕ) (inside value : List ℕ) (end : ℕ) → text_from whole place (place + 1) [] inside ≡ Ok (value, end)
-    → length value ≤ 65536 → piece_of whole place (34 ∷ inside) ≡ Ok (token (end - place) (kind.Text value))
+    → length value ≤ TEXT_LIMIT → piece_of whole place (34 ∷ inside) ≡ Ok (token (end - place) (kind.Text value))
 unfolding piece_of text_piece
 piece_of-text whole place inside value end is le = rw (is, fits (length value) le) refl
   where
-    fits : (v : ℕ) → v ≤ 65536 → nat_le v 65536 ≡ true
+    fits : (v : ℕ) → v ≤ TEXT_LIMIT → nat_le v TEXT_LIMIT ≡ true
     fits v le = grind arith
 
 pub text_from-escape : (whole : Bool) (quote place c : ℕ) (value rest : List ℕ) → is_pair c ≡ true
@@ -98,7 +95,7 @@ text_from-close whole quote place value (c ∷ rest) = refl
 
 -- no symbol of two or three bytes begins with this byte and what follows it
 abbrev pub IsAlone : ℕ → List ℕ → Type 0
-IsAlone a [] = Unit {0}
+IsAlone a [] = ⊤
 IsAlone a (b ∷ more) = (two_byte_symbol a b ≡ None) × (nat_eq a 37 ≡ false)
 
 pub symbol_of-one : (a : ℕ) (rest : List ℕ) (s : Symbol) → one_byte_symbol a ≡ Some s → IsAlone a rest → symbol_of (a ∷ rest) ≡ Some (s, 1)

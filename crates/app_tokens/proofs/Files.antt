@@ -9,7 +9,8 @@ use Rattle.app_tokens.specs.declared.token.Token.{Token}
 use Rattle.app_tokens.specs.declared.error.TokenError.{TokenError}
 use Rattle.app_tokens.specs.declared.error.TokenError.TheVariants.{BadByte, OpenText, Memory}
 use Rattle.app_tokens.specs.Tokens.{Tokens}
-use Rattle.app_tokens.specs.Scan.{tokens_from, tokens_of, Refuses, ◌>>=◌}
+use Rattle.rx_value.specs.Results.{◌>>=◌, RefusesOrMemory}
+use Rattle.app_tokens.specs.Scan.{tokens_from, tokens_of, refusal}
 
 tokens_of-front : (bytes front : List ℕ) (n : ℕ) (whole : Bool) → utf8_valid_len bytes ≡ n → front ≡ take n bytes → (n == length bytes) ≡ whole
     → tokens_of bytes ≡ (tokens_from whole 0 0 front >>= λ ts. Ok (record { tokens = ts; end = length bytes }))
@@ -22,7 +23,7 @@ tokens_of-whole bytes text same utf8 =
     tokens_of-front bytes text (length bytes) true (utf8_valid_len-IsUtf8 bytes utf8) (same ∙ sym (take_all (length bytes) bytes (omega arith))) (grind arith)
 
 refused : (end : ℕ) (e : TokenError) (found : Result (List Token) TokenError) (said : Result Tokens TokenError)
-    → said ≡ (found >>= λ ts. Ok (record { tokens = ts; end = end })) → Refuses e found → Refuses e said
+    → said ≡ (found >>= λ ts. Ok (record { tokens = ts; end = end })) → RefusesOrMemory refusal e found → RefusesOrMemory refusal e said
 refused end (BadByte p) found said is h = is ∙ ap (λ (r : Result (List Token) TokenError). r >>= λ ts. Ok (record { tokens = ts; end = end })) h
 refused end (OpenText p) found said is h = is ∙ ap (λ (r : Result (List Token) TokenError). r >>= λ ts. Ok (record { tokens = ts; end = end })) h
 refused end Memory found said is h = tt
@@ -37,7 +38,7 @@ whole_accepted bytes text (Ok list) same utf8 said end =
 whole_accepted bytes text (Err e) same utf8 said end = tt
 
 pub whole_refused : (bytes text : List ℕ) (r : Result Tokens TokenError) → text ≡ bytes → IsUtf8 bytes
-    → IfErr r (λ e. Refuses e (tokens_from true 0 0 text)) → IfErr r (λ e. Refuses e (tokens_of bytes))
+    → IfErr r (λ e. RefusesOrMemory refusal e (tokens_from true 0 0 text)) → IfErr r (λ e. RefusesOrMemory refusal e (tokens_of bytes))
 whole_refused bytes text (Ok list) same utf8 said = tt
 whole_refused bytes text (Err e) same utf8 said = refused (length bytes) e (tokens_from true 0 0 text) (tokens_of bytes) (tokens_of-whole bytes text same utf8) said
 
@@ -55,7 +56,7 @@ whole_utf8 bytes (Ok list) utf8 = utf8
 whole_utf8 bytes (Err e) utf8 = tt
 
 pub broken_refused : (bytes front : List ℕ) (n : ℕ) (r : Result Tokens TokenError) → utf8_valid_len bytes ≡ n → front ≡ take n bytes → n < length bytes
-    → IfErr r (λ e. Refuses e (tokens_from false 0 0 front)) → IfErr r (λ e. Refuses e (tokens_of bytes))
+    → IfErr r (λ e. RefusesOrMemory refusal e (tokens_from false 0 0 front)) → IfErr r (λ e. RefusesOrMemory refusal e (tokens_of bytes))
 broken_refused bytes front n (Ok list) len is short said = tt
 broken_refused bytes front n (Err e) len is short said =
     refused (length bytes) e (tokens_from false 0 0 front) (tokens_of bytes) (tokens_of-front bytes front n false len is (grind arith)) said

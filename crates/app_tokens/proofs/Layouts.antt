@@ -1,6 +1,6 @@
 -- Tokens stand in their file in order, with blanks and comments alone between them.
 use Rattle.std.proofs.Common.{◌≡◌, ℕ, zero, suc, ◌+◌, ◌-◌, ◌≤◌, List, [], ◌∷◌, ◌++◌, length, drop, take, refl, sym, ap, ◌∙◌, arith, Bool, true, false, cond, not, nat_eq, nat_le, append_assoc, subst, length-drop, length-append, length-take, ◌⊎◌, inl, inr, Option, Some, None, Result, Ok, Err}
-use Rattle.std.specs.Prelude.{take_while, if◌then◌else◌, IsSome}
+use Rattle.std.specs.Prelude.{⊤, take_while, if◌then◌else◌, IsSome}
 use Rattle.std.specs.Str.{IsUtf8}
 use Rattle.std.proofs.lemmas.Str.{IsUtf8-drop}
 use Rattle.std.proofs.lemmas.List.{take-append-drop}
@@ -14,7 +14,9 @@ use Rattle.app_tokens.specs.declared.symbol.Symbol.{Symbol}
 use Rattle.app_tokens.specs.declared.token.Kind.TheVariants as kind
 use Rattle.app_tokens.specs.Symbol.{symbol_of}
 use Rattle.rx_value.specs.Names.{is_letter, is_digit, is_of_word}
-use Rattle.app_tokens.specs.Scan.{choose, is_blank, is_of_comment, value_after, word_piece, number_piece, text_from, limited, text_piece, found_symbol, symbol_piece, piece_of, tokens_from, listed, gap, token, ◌>>=◌}
+use Rattle.rx_value.specs.Results.{choose, ◌>>=◌}
+use Rattle.rx_value.specs.declared.limits.TheConstants.{TEXT_LIMIT, GREATEST_NUMBER}
+use Rattle.app_tokens.specs.Scan.{is_blank, is_of_comment, value_after, word_piece, number_piece, text_from, limited, text_piece, found_symbol, symbol_piece, piece_of, tokens_from, listed, gap, token}
 use Rattle.app_tokens.specs.Tokens.{Tokens}
 use Rattle.std.specs.Result.{IfOk}
 use Rattle.app_tokens.specs.Layout.{comment_after, StandBehind, StandIn}
@@ -26,9 +28,9 @@ abbrev Closes : Bool → List ℕ → Type 0
 Closes true bs = begins bs
   where
     begins : List ℕ → Type 0
-    begins [] = Unit {0}
+    begins [] = ⊤
     begins (b ∷ more) = b ≡ 10
-Closes false bs = Unit {0}
+Closes false bs = ⊤
 
 -- bytes that leave a comment open or not may stand before a gap
 StandBehind-gap : (before between : Bool) (place : ℕ) (front rest : List ℕ) (tokens : List Token)
@@ -53,7 +55,7 @@ IsToken p = IsSome p.kind
 
 number_token : (place : ℕ) (digits : List ℕ) (p : Piece) → number_piece place digits ≡ Ok p → IsToken p
 unfolding number_piece
-number_token place digits p e = each (nat_le (value_after 0 digits) 9223372036854775807) e
+number_token place digits p e = each (nat_le (value_after 0 digits) GREATEST_NUMBER) e
   where
     each : (t : Bool)
         → choose t (λ ds. Ok (token (length ds) (kind.Number (value_after 0 ds)))) (λ ds. Err (BadByte place)) digits ≡ Ok p → IsToken p
@@ -61,7 +63,7 @@ number_token place digits p e = each (nat_le (value_after 0 digits) 922337203685
     each false e = cc
 
 limited_token : (size : ℕ) (value : List ℕ) (quote : ℕ) (p : Piece) → limited size value quote ≡ Ok p → IsToken p
-limited_token size value quote p e = each (nat_le (length value) 65536) e
+limited_token size value quote p e = each (nat_le (length value) TEXT_LIMIT) e
   where
     each : (t : Bool) → (if t then Ok (token size (kind.Text value)) else Err (BadByte quote)) ≡ Ok p → IsToken p
     each true e = let is : token size (kind.Text value) ≡ p = cc in let P : Piece → Type 0 = λ q. IsToken q in subst P is refl

@@ -14,7 +14,9 @@ use Rattle.app_tokens.specs.declared.error.TokenError.{TokenError}
 use Rattle.app_tokens.specs.declared.error.TokenError.TheVariants.{BadByte, OpenText, Memory}
 use Rattle.app_tokens.specs.Symbol.{symbol_of, sized_or, one_byte_symbol, two_byte_symbol, three_byte_symbol}
 use Rattle.rx_value.specs.Names.{is_letter, is_digit, is_of_word}
-use Rattle.app_tokens.specs.Scan.{choose, value_after, gap, token, limited, is_blank, is_of_comment, word_piece, number_piece, found_symbol, symbol_piece, text_piece, text_from, Refuses, cut_off, is_pair, meaning_of, piece_of, tokens_from, listed, ◌>>=◌}
+use Rattle.rx_value.specs.Results.{choose, ◌>>=◌, RefusesOrMemory}
+use Rattle.rx_value.specs.declared.limits.TheConstants.{TEXT_LIMIT, GREATEST_NUMBER}
+use Rattle.app_tokens.specs.Scan.{value_after, gap, token, limited, is_blank, is_of_comment, word_piece, number_piece, found_symbol, symbol_piece, text_piece, text_from, refusal, cut_off, is_pair, meaning_of, piece_of, tokens_from, listed}
 use Rattle.app_tokens.proofs.Texts.{length-take_while, IsCharBoundary-run}
 
 -- tokens before those that come, if they come
@@ -209,7 +211,7 @@ text_from-closes whole quote place value (b ∷ c ∷ bs) t e =
     each false false false p q two one e = further t.1 (c ∷ bs) (one (value ++ b ∷ []) e)
 
 limited-size : (size : ℕ) (value : List ℕ) (quote : ℕ) (p : Piece) → limited size value quote ≡ Ok p → p.size ≡ size
-limited-size size value quote p e = each (nat_le (length value) 65536) e
+limited-size size value quote p e = each (nat_le (length value) TEXT_LIMIT) e
   where
     each : (t : Bool) → (if t then Ok (token size (kind.Text value)) else Err (BadByte quote)) ≡ Ok p → p.size ≡ size
     each true e = let is : token size (kind.Text value) ≡ p = cc in sym (ap (λ (q : Piece). q.size) is)
@@ -231,7 +233,7 @@ IsCut-text whole quote b inside p utf8 e = each (text_from whole quote (quote + 
 
 number_piece-size : (place : ℕ) (digits : List ℕ) (p : Piece) → number_piece place digits ≡ Ok p → p.size ≡ length digits
 unfolding number_piece
-number_piece-size place digits p e = each (nat_le (value_after 0 digits) 9223372036854775807) e
+number_piece-size place digits p e = each (nat_le (value_after 0 digits) GREATEST_NUMBER) e
   where
     each : (t : Bool)
         → choose t (λ ds. Ok (token (length ds) (kind.Number (value_after 0 ds)))) (λ ds. Err (BadByte place)) digits ≡ Ok p → p.size ≡ length digits
@@ -311,18 +313,18 @@ scan_step whole text rest after tokens now p utf8 within said is behind pushed =
 -- the file is refused where a piece is
 pub scan_refuses : (whole : Bool) (text rest : List ℕ) (tokens : List Token) (e : TokenError) (A : Type 0) (r : Result A TokenError)
     → 0 < length rest → joined tokens (tokens_from whole 0 (length text - length rest) rest) ≡ tokens_from whole 0 0 text
-    → Refuses e (piece_of whole (length text - length rest) rest) → IsErrAnd r (λ y. y ≡ e)
-    → IfErr r (λ y. Refuses y (tokens_from whole 0 0 text))
+    → RefusesOrMemory refusal e (piece_of whole (length text - length rest) rest) → IsErrAnd r (λ y. y ≡ e)
+    → IfErr r (λ y. RefusesOrMemory refusal y (tokens_from whole 0 0 text))
 scan_refuses whole text rest tokens e A r some said refused gives = each r gives
   where
-    through : (x : TokenError) → Refuses x (piece_of whole (length text - length rest) rest) → Refuses x (tokens_from whole 0 0 text)
+    through : (x : TokenError) → RefusesOrMemory refusal x (piece_of whole (length text - length rest) rest) → RefusesOrMemory refusal x (tokens_from whole 0 0 text)
     through (BadByte q) h = sym said ∙ ap (joined tokens) (tokens_from-fails whole (length text - length rest) rest (BadByte q) some h)
     through (OpenText q) h = sym said ∙ ap (joined tokens) (tokens_from-fails whole (length text - length rest) rest (OpenText q) some h)
     through Memory h = tt
 
-    each : (r : Result A TokenError) → IsErrAnd r (λ y. y ≡ e) → IfErr r (λ y. Refuses y (tokens_from whole 0 0 text))
+    each : (r : Result A TokenError) → IsErrAnd r (λ y. y ≡ e) → IfErr r (λ y. RefusesOrMemory refusal y (tokens_from whole 0 0 text))
     each (Ok x) h = tt
-    each (Err y) h = through y (let P : TokenError → Type 0 = λ x. Refuses x (piece_of whole (length text - length rest) rest) in subst P (sym h) refused)
+    each (Err y) h = through y (let P : TokenError → Type 0 = λ x. RefusesOrMemory refusal x (piece_of whole (length text - length rest) rest) in subst P (sym h) refused)
 
 -- nothing is left of the file
 scan_ends : (whole : Bool) (text rest : List ℕ) (tokens : List Token) → length rest ≡ 0

@@ -9,18 +9,19 @@ use Rattle.std.proofs.lemmas.List.Sums.{take_while-cons}
 use Rattle.app_tokens.specs.declared.piece.Piece.{Piece}
 use Rattle.app_tokens.specs.declared.error.TokenError.{TokenError}
 use Rattle.app_tokens.specs.declared.error.TokenError.TheVariants.{BadByte, OpenText, Memory}
-use Rattle.app_tokens.specs.Scan.{choose, limited, text_piece, text_from, cut_off, is_pair, meaning_of, ◌>>=◌, Refuses, Answers}
-use Rattle.app_tokens.specs.Text.{is_plain, pair_of}
+use Rattle.rx_value.specs.Results.{choose, ◌>>=◌, RefusesOrMemory, GivesOrMemory}
+use Rattle.app_tokens.specs.Scan.{limited, text_piece, text_from, cut_off, is_pair, meaning_of, refusal}
+use Rattle.app_tokens.specs.inner.Text.{is_plain, pair_of}
 
 -- what an error says where the definition gives it
-pub Refuses-from : {A : Type 0} (e : TokenError) (said : Result A TokenError) → said ≡ Err e → Refuses e said
-Refuses-from (BadByte p) said is = is
-Refuses-from (OpenText p) said is = is
-Refuses-from Memory said is = tt
+pub RefusesOrMemory-from : {A : Type 0} (e : TokenError) (said : Result A TokenError) → said ≡ Err e → RefusesOrMemory refusal e said
+RefusesOrMemory-from (BadByte p) said is = is
+RefusesOrMemory-from (OpenText p) said is = is
+RefusesOrMemory-from Memory said is = tt
 
-pub Answers-from : {A : Type 0} (r said : Result A TokenError) → said ≡ r → Answers r said
-Answers-from (Ok x) said is = is
-Answers-from (Err e) said is = Refuses-from e said is
+pub GivesOrMemory-from : {A : Type 0} (r said : Result A TokenError) → said ≡ r → GivesOrMemory (λ x. x) refusal r said
+GivesOrMemory-from (Ok x) said is = is
+GivesOrMemory-from (Err e) said is = RefusesOrMemory-from e said is
 
 abbrev pub begins_plain : List ℕ → Bool
 begins_plain [] = false
@@ -187,7 +188,7 @@ pub text_piece-fails : (whole : Bool) (quote : ℕ) (inside value rest after byt
     → length rest ≤ length inside → after ≡ drop (length (take_while is_plain rest)) rest
     → text_from whole quote (quote + 1 + (length inside - length rest)) value rest ≡ text_from whole quote (quote + 1) [] inside
     → bytes ≡ after → Err e ≡ pair_of whole quote (quote + 1 + (length inside - length after)) bytes
-    → IsErrAnd r (λ y. y ≡ e) → Answers r (text_piece whole quote inside)
+    → IsErrAnd r (λ y. y ≡ e) → GivesOrMemory (λ p. p) refusal r (text_piece whole quote inside)
 unfolding text_piece
 text_piece-fails whole quote inside value rest after bytes e r within is said same pair gives =
     let p = err_from_is_err_and r gives in
@@ -196,7 +197,7 @@ text_piece-fails whole quote inside value rest after bytes e r within is said sa
     (text_from whole quote (quote + 1) [] inside)
     (turn whole quote inside value rest after (text_from whole quote (quote + 1) [] inside) within is said)
     (subst P same (sym pair)) in
-    Answers-from r (text_from whole quote (quote + 1) [] inside >>= λ t. limited (t.1 - quote) t.0 quote)
+    GivesOrMemory-from r (text_from whole quote (quote + 1) [] inside >>= λ t. limited (t.1 - quote) t.0 quote)
     (ap (λ (t : Result (List ℕ × ℕ) TokenError). t >>= λ t. limited (t.1 - quote) t.0 quote) failed ∙ sym (p.1 ∙ ap (λ y. Err y) p.2))
 
 -- the text ends where the turn finds its closing quote
@@ -205,7 +206,7 @@ pub text_piece-ends : (whole : Bool) (quote : ℕ) (inside value now rest after 
     → text_from whole quote (quote + 1 + (length inside - length rest)) value rest ≡ text_from whole quote (quote + 1) [] inside
     → now ≡ value ++ take_while is_plain rest
     → bytes ≡ after → Ok None ≡ pair_of whole quote (quote + 1 + (length inside - length after)) bytes
-    → r ≡ limited (quote + 1 + (length inside - length after) + 1 - quote) now quote → Answers r (text_piece whole quote inside)
+    → r ≡ limited (quote + 1 + (length inside - length after) + 1 - quote) now quote → GivesOrMemory (λ p. p) refusal r (text_piece whole quote inside)
 unfolding text_piece
 text_piece-ends whole quote inside value now rest after bytes r within is said pushed same pair gives =
     let P : List ℕ → Type 0 = λ bs. pair_of whole quote (quote + 1 + (length inside - length after)) bs ≡ Ok None in
@@ -213,7 +214,7 @@ text_piece-ends whole quote inside value now rest after bytes r within is said p
     (text_from whole quote (quote + 1) [] inside)
     (turn whole quote inside value rest after (text_from whole quote (quote + 1) [] inside) within is said)
     (subst P same (sym pair)) in
-    Answers-from r (text_from whole quote (quote + 1) [] inside >>= λ t. limited (t.1 - quote) t.0 quote)
+    GivesOrMemory-from r (text_from whole quote (quote + 1) [] inside >>= λ t. limited (t.1 - quote) t.0 quote)
     (ap (λ (t : Result (List ℕ × ℕ) TokenError). t >>= λ t. limited (t.1 - quote) t.0 quote) ended
     ∙ sym (gives ∙ ap (λ v. limited (quote + 1 + (length inside - length after) + 1 - quote) v quote) pushed))
 

@@ -5,8 +5,9 @@ use Rattle.std.specs.Str.{IsUtf8}
 use Rattle.std.proofs.lemmas.Str.{IsUtf8-append, IsUtf8-from_ascii, IsUtf8-take, IsUtf8-drop, IsUtf8-nil, IsCharBoundary-after_ascii}
 use Rattle.app_tokens.specs.declared.error.TokenError.{TokenError}
 use Rattle.app_tokens.specs.declared.error.TokenError.TheVariants.{BadByte}
-use Rattle.app_tokens.specs.Scan.{text_from, cut_off, is_pair, meaning_of, ◌>>=◌}
-use Rattle.app_tokens.specs.Text.{is_plain, pair_of}
+use Rattle.rx_value.specs.Results.{◌>>=◌}
+use Rattle.app_tokens.specs.Scan.{text_from, cut_off, is_pair, meaning_of}
+use Rattle.app_tokens.specs.inner.Text.{is_plain, pair_of}
 use Rattle.app_tokens.proofs.Digits.{take-length-take_while}
 use Rattle.app_tokens.proofs.Texts.{text_from-turn, IsCharBoundary-plain, behind}
 

@@ -4,7 +4,8 @@ use Rattle.std.specs.Str.{byte}
 use Rattle.app_tokens.specs.declared.token.Token.{Token}
 use Rattle.app_tokens.specs.Scan.{is_blank}
 
--- whether a comment is open behind these bytes, where one is open before them or not; None if they aren't blanks and comments alone
+-- whether a comment is open behind these bytes, where one is open before them or not; None if they aren't blanks and
+-- comments alone
 abbrev pub comment_after : Bool → List ℕ → Option Bool
 comment_after before [] = Some before
 comment_after true (b ∷ bs) = comment_after (not (nat_eq b 10)) bs

@@ -2,6 +2,6 @@ pub mod Word
 pub mod Symbol
 pub mod Tokens
 pub mod Scan
-pub mod Text
 pub mod Layout
 pub mod Kind
+pub mod inner

@@ -3,9 +3,11 @@
 -- A file is cut from left to right. At each place stands a piece: a blank, a comment, or a token. The first place at
 -- which none can stand gives the refusal. Places are counted in bytes from 0. `whole` says whether the bytes end with
 -- the file, and not because the next byte is no UTF-8.
-use Rattle.std.specs.Prelude.{◌≡◌, ℕ, zero, suc, ◌+◌, ◌-◌, ◌*◌, Bool, true, false, not, ◌||◌, List, [], ◌∷◌, ◌++◌, length, take, take_while, Option, Some, None, Result, Ok, Err, nat_eq, nat_lt, nat_le, if◌then◌else◌, ◌==◌, EachIndex, IsTrue, slice_index}
+use Rattle.std.specs.Prelude.{◌≡◌, ℕ, zero, suc, ◌+◌, ◌-◌, ◌*◌, Bool, true, not, ◌||◌, List, [], ◌∷◌, ◌++◌, length, take, take_while, Option, Some, None, Result, Ok, Err, nat_eq, nat_lt, nat_le, if◌then◌else◌, ◌==◌, EachIndex, IsTrue, slice_index}
 use Rattle.std.specs.Str.{byte, IsUtf8}
 use Rattle.std.specs.Str.Lossy.{utf8_valid_len}
+use Rattle.rx_value.specs.declared.limits.TheConstants.{TEXT_LIMIT, GREATEST_NUMBER}
+use Rattle.rx_value.specs.Results.{choose, ◌>>=◌}
 use Rattle.rx_value.specs.Names.{is_digit, is_letter, is_of_word}
 use Rattle.app_tokens.specs.declared.token.Token.{Token}
 use Rattle.app_tokens.specs.declared.token.Kind.{Kind}
@@ -18,16 +20,6 @@ use Rattle.app_tokens.specs.Word.{word_of}
 use Rattle.app_tokens.specs.Symbol.{symbol_of}
 use Rattle.app_tokens.specs.declared.piece.Piece.{Piece}
 use Rattle.app_tokens.specs.Tokens.{Tokens}
-
--- one of two ways to go on, of which only the chosen one is taken
-abbrev pub choose : {A B : Type 0} → Bool → (A → B) → (A → B) → A → B
-choose true f g x = f x
-choose false f g x = g x
-
-infixl 10 ◌>>=◌
-abbrev pub ◌>>=◌ : {A B : Type 0} → Result A TokenError → (A → Result B TokenError) → Result B TokenError
-(Ok x) >>= f = f x
-(Err e) >>= f = Err e
 
 -- a space, a tab, a line feed or a carriage return
 abbrev pub is_blank : ℕ → Bool
@@ -66,7 +58,7 @@ AreDigits digits = EachIndex digits (λ i. IsTrue (is_digit (slice_index digits 
 -- a number, which may be at most 9,223,372,036,854,775,807
 unfoldable pub number_piece : ℕ → List ℕ → Result Piece TokenError
 number_piece place digits =
-    choose (nat_le (value_after 0 digits) 9223372036854775807)
+    choose (nat_le (value_after 0 digits) GREATEST_NUMBER)
     (λ ds. Ok (token (length ds) (kind.Number (value_after 0 ds)))) (λ ds. Err (BadByte place)) digits
 
 -- the bytes end inside a text: the text stays open, unless they end because the next byte is no UTF-8
@@ -81,7 +73,8 @@ is_pair c = nat_eq c (byte "\"") || nat_eq c (byte "\\") || nat_eq c (byte "n")
 abbrev pub meaning_of : ℕ → ℕ
 meaning_of c = if nat_eq c (byte "n") then 10 else c
 
--- a text from a place behind its opening quote, with the value so far: the whole value, and the place behind the closing quote
+-- a text from a place behind its opening quote, with the value so far: the whole value, and the place behind the
+-- closing quote
 unfoldable pub text_from : Bool → ℕ → ℕ → List ℕ → List ℕ → Result (List ℕ × ℕ) TokenError
 text_from whole quote place value [] = cut_off whole quote place
 text_from whole quote place value (b ∷ []) =
@@ -92,13 +85,15 @@ text_from whole quote place value (b ∷ []) =
 text_from whole quote place value (b ∷ c ∷ rest) =
     choose (nat_eq b (byte "\"")) (λ v. Ok (v, place + 1))
     (choose (nat_eq b (byte "\\"))
-    (choose (is_pair c) (λ v. text_from whole quote (place + 2) (v ++ meaning_of c ∷ []) rest) (λ v. Err (BadByte place)))
+    (choose (is_pair c) (λ v. text_from whole quote (place + 2) (v ++ meaning_of c ∷ []) rest)
+    (λ v. Err (BadByte place)))
     (choose (nat_lt b 32) (λ v. Err (BadByte place))
     (λ v. text_from whole quote (place + 1) (v ++ b ∷ []) (c ∷ rest)))) value
 
 -- a whole text of so many bytes, whose value may have at most 65,536 bytes
 abbrev pub limited : ℕ → List ℕ → ℕ → Result Piece TokenError
-limited size value quote = if nat_le (length value) 65536 then Ok (token size (kind.Text value)) else Err (BadByte quote)
+limited size value quote =
+    if nat_le (length value) TEXT_LIMIT then Ok (token size (kind.Text value)) else Err (BadByte quote)
 
 -- the text that opens at a quote, by the bytes behind the quote
 unfoldable pub text_piece : Bool → ℕ → List ℕ → Result Piece TokenError
@@ -129,7 +124,8 @@ abbrev pub listed : Option Kind → ℕ → List ℕ → List Token
 listed None place spelling = []
 listed (Some k) place spelling = record { kind = k; place = place; spelling = spelling } ∷ []
 
--- the tokens of the bytes, which stand at this place; first so many of them are passed over, as those of the piece before
+-- the tokens of the bytes, which stand at this place; first so many of them are passed over, as those of the piece
+-- before
 unfoldable pub tokens_from : Bool → ℕ → ℕ → List ℕ → Result (List Token) TokenError
 tokens_from whole skipped place [] = if whole then Ok [] else Err (BadByte place)
 tokens_from whole (suc n) place (b ∷ bs) = tokens_from whole n (place + 1) bs
@@ -144,20 +140,15 @@ pub record AreCut (tokens : List Token) : Type 0 where
   pub utf8 : IsUtf8 text
   pub cut : tokens_from true 0 0 text ≡ Ok tokens
 
--- the tokens of a file, or its first refusal: what stands before its first byte that is no UTF-8 is cut into tokens, and
--- that byte is refused if nothing before it is
+-- the tokens of a file, or its first refusal: what stands before its first byte that is no UTF-8 is cut into tokens,
+-- and that byte is refused if nothing before it is
 unfoldable pub tokens_of : List ℕ → Result Tokens TokenError
 tokens_of bytes =
     tokens_from (utf8_valid_len bytes == length bytes) 0 0 (take (utf8_valid_len bytes) bytes) >>= λ found.
     Ok (record { tokens = found; end = length bytes })
 
--- the error is the refusal, unless it is want of memory
-abbrev pub Refuses : {A : Type 0} → TokenError → Result A TokenError → Type 0
-Refuses (BadByte place) said = said ≡ Err (BadByte place)
-Refuses (OpenText place) said = said ≡ Err (OpenText place)
-Refuses Memory said = Unit {0}
-
--- a call answers what is said, unless it finds no memory
-abbrev pub Answers : {A : Type 0} → Result A TokenError → Result A TokenError → Type 0
-Answers (Ok x) said = said ≡ Ok x
-Answers (Err e) said = Refuses e said
+-- what an error refuses; None for want of memory
+abbrev pub refusal : TokenError → Option TokenError
+refusal (BadByte place) = Some (BadByte place)
+refusal (OpenText place) = Some (OpenText place)
+refusal Memory = None

@@ -60,8 +60,8 @@ words =
     ∷ []
 
 -- each reserved word with its spelling
-abbrev pub reserved : List (List ℕ × Word)
-reserved = zip reserved_words words
+abbrev pub spelled_words : List (List ℕ × Word)
+spelled_words = zip reserved_words words
 
 -- the first word of a table that is spelled so
 abbrev pub word_in : List (List ℕ × Word) → List ℕ → Option Word
@@ -70,7 +70,7 @@ word_in (r ∷ more) spelling = if bytes_eq r.0 spelling then Some r.1 else word
 
 -- the reserved word that is spelled so
 unfoldable pub word_of : List ℕ → Option Word
-word_of spelling = word_in reserved spelling
+word_of spelling = word_in spelled_words spelling
 
 -- the entries of a table of the code
 abbrev pub entries : List (Bor (List ℕ) × Word) → List (List ℕ × Word)

@@ -10,8 +10,6 @@ mod list;
 mod piece;
 mod scan;
 mod symbol;
-#[cfg(test)]
-mod tests;
 mod text;
 mod token;
 mod word;

@@ -1,14 +1,16 @@
 //! What stands at one place of a file.
 
 ghost use Rattle.std.specs.Prelude.{◌≡◌, ◌<◌, ◌≤◌, ◌+◌, ◌^◌, length, drop, take_while, slice_index, MatchOption};
+ghost use Rattle.rx_value.specs.Results.{GivesOrMemory};
 ghost use Rattle.rx_value.specs.Names.{is_letter, is_digit, is_of_word};
-ghost use Rattle.app_tokens.specs.Scan.{gap, token, is_blank, is_of_comment, value_after, number_piece, word_piece, symbol_piece, piece_of, AreDigits, Answers};
+ghost use Rattle.app_tokens.specs.Scan.{gap, token, is_blank, is_of_comment, value_after, number_piece, word_piece, symbol_piece, piece_of, AreDigits, refusal};
 
 use crate::error::TokenError;
 use crate::symbol::first_symbol;
 use crate::text::text;
 use crate::token::{Kind, Number};
 use crate::word::reserved_word;
+use rx_value::GREATEST_NUMBER;
 use std::alloc::Global;
 
 /// So many bytes, and the token that they are, if they are one.
@@ -114,13 +116,13 @@ fn word_piece(bytes: &[u8]) -> Piece
 /// The number that digits spell, where it is at most the greatest number of a file.
 fn number(digits: &[u8]) -> Option<Number>
     requires { AreDigits digits.now }
-    ensures { MatchOption result (9223372036854775807 < value_after 0 digits.now)
-        (λ n. (n ≡ value_after 0 digits.now) × (n ≤ 9223372036854775807)) }
+    ensures { MatchOption result (GREATEST_NUMBER < value_after 0 digits.now)
+        (λ n. (n ≡ value_after 0 digits.now) × (n ≤ GREATEST_NUMBER)) }
 {
     let mut value: u64 = 0;
     for digit in digits {
         let digit = (*digit - b'0') as u64;
-        if value > (9223372036854775807 - digit) / 10 {
+        if value > (GREATEST_NUMBER - digit) / 10 {
             return None;
         }
         value = value * 10 + digit;
@@ -167,7 +169,7 @@ pub fn first_piece(
     whole: bool,
 ) -> Result<Piece, TokenError>
     requires { place + length rest.now < 2 ^ 63 }
-    ensures { Answers result (piece_of whole place rest.now) }
+    ensures { GivesOrMemory (λ piece. piece) refusal result (piece_of whole place rest.now) }
 {
     let bytes = rest.as_bytes();
     let [byte, ..] = bytes else {

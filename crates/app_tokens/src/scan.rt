@@ -2,8 +2,9 @@
 
 ghost use Rattle.std.specs.Prelude.{◌≡◌, ◌+◌, ◌++◌, length, Ok, true, IfOk, IfErr, OnOk};
 ghost use Rattle.std.specs.Str.{IsUtf8};
+ghost use Rattle.rx_value.specs.Results.{RefusesOrMemory};
 ghost use Rattle.app_tokens.specs.Layout.{StandIn};
-ghost use Rattle.app_tokens.specs.Scan.{Refuses, listed, tokens_from, tokens_of};
+ghost use Rattle.app_tokens.specs.Scan.{refusal, listed, tokens_from, tokens_of};
 
 use crate::error::TokenError;
 use crate::list::TokenList;
@@ -41,7 +42,7 @@ fn scan<'a>(alloc: Global, text: &'a str, whole: bool) -> Result<TokenList<'a>, 
     ensures accepted { IfOk result (λ list. tokens_from whole 0 0 text.now ≡ Ok list.tokens) }
     ensures end { IfOk result (λ list. list.end ≡ length text.now) }
     ensures whole { OnOk result (whole ≡ true) }
-    ensures refused { IfErr result (λ error. Refuses error (tokens_from whole 0 0 text.now)) }
+    ensures refused { IfErr result (λ error. RefusesOrMemory refusal error (tokens_from whole 0 0 text.now)) }
 {
     let mut tokens = Vec::new(alloc);
     let mut rest = text;
@@ -61,7 +62,7 @@ fn scan<'a>(alloc: Global, text: &'a str, whole: bool) -> Result<TokenList<'a>, 
 /// Cuts the bytes of an app file into tokens. The refusal is the first from the left.
 pub fn tokens(alloc: Global, text: &[u8]) -> Result<TokenList<'_>, TokenError>
     ensures accepted { IfOk result (λ list. tokens_of text.now ≡ Ok list) }
-    ensures refused { IfErr result (λ error. Refuses error (tokens_of text.now)) }
+    ensures refused { IfErr result (λ error. RefusesOrMemory refusal error (tokens_of text.now)) }
     ensures laid_out { IfOk result (λ list. StandIn 0 text.now list.tokens) }
     ensures end { IfOk result (λ list. list.end ≡ length text.now) }
     ensures utf8 { OnOk result (IsUtf8 text.now) }

@@ -1,13 +1,14 @@
 //! Texts, from behind the opening quote to the closing one.
 
-ghost use Rattle.std.specs.Prelude.{◌≡◌, ◌<◌, ◌+◌, ◌∷◌, [], ◌++◌, ◌^◌, length, drop, take_while, slice_index, IfOk, OnOk, IfSome, OnSome, IsTrue, SomeIff};
-ghost use Rattle.app_tokens.specs.Scan.{Answers, is_pair, meaning_of, cut_off, limited, text_piece};
-ghost use Rattle.app_tokens.specs.Text.{is_plain, pair_of};
+ghost use Rattle.std.specs.Prelude.{◌≡◌, ◌<◌, ◌+◌, ◌∷◌, [], ◌++◌, ◌^◌, length, drop, take_while, slice_index, IfOk, OnOk, IfSome, OnSome, IsTrue, SomeIff, ⊤};
+ghost use Rattle.rx_value.specs.Results.{GivesOrMemory};
+ghost use Rattle.app_tokens.specs.Scan.{refusal, is_pair, meaning_of, cut_off, limited, text_piece};
+ghost use Rattle.app_tokens.specs.inner.Text.{is_plain, pair_of};
 
 use crate::error::TokenError;
 use crate::piece::{Piece, token};
 use crate::token::Kind;
-use rx_value::{Memory, RxText};
+use rx_value::{Memory, RxText, TEXT_LIMIT};
 use std::alloc::Global;
 
 fn is_plain(byte: u8) -> bool
@@ -44,7 +45,7 @@ fn meaning(byte: u8) -> Option<u8>
 }
 
 fn cut_off(whole: bool, quote: usize, place: usize) -> TokenError
-    ensures { cut_off {A = Unit {0}} whole quote place ≡ Err result }
+    ensures { cut_off {A = ⊤} whole quote place ≡ Err result }
 {
     if whole {
         TokenError::OpenText(quote)
@@ -54,7 +55,7 @@ fn cut_off(whole: bool, quote: usize, place: usize) -> TokenError
 }
 
 /// The byte that the pair in front stands for, or None at the closing quote.
-#[tactic(auto, unfolding(crate::specs::Text::pair_of))]
+#[tactic(auto, unfolding(crate::specs::inner::Text::pair_of))]
 fn pair(bytes: &[u8], whole: bool, quote: usize, place: usize) -> Result<Option<u8>, TokenError>
     ensures said { result ≡ pair_of whole quote place bytes.now }
     ensures ascii { IfOk result (λ pair. IfSome pair (λ byte. byte < 128)) }
@@ -90,7 +91,7 @@ fn behind_pair(rest: &str) -> &str
 fn limited(size: usize, value: RxText, quote: usize) -> Result<Piece, TokenError>
     ensures { result ≡ limited size value quote }
 {
-    if value.len() <= 65536 {
+    if value.len() <= TEXT_LIMIT {
         Ok(token(size, Kind::Text(value)))
     } else {
         Err(TokenError::BadByte(quote))
@@ -101,7 +102,7 @@ fn limited(size: usize, value: RxText, quote: usize) -> Result<Piece, TokenError
 #[tactic(auto, unfolding(crate::specs::Scan::text_piece))]
 pub fn text(alloc: Global, inside: &str, quote: usize, whole: bool) -> Result<Piece, TokenError>
     requires { quote + length inside.now + 1 < 2 ^ 63 }
-    ensures { Answers result (text_piece whole quote inside.now) }
+    ensures { GivesOrMemory (λ piece. piece) refusal result (text_piece whole quote inside.now) }
 {
     let mut value = RxText::new(alloc);
     let mut rest = inside;

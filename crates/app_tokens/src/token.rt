@@ -3,7 +3,7 @@ ghost use Rattle.app_tokens.specs.Kind.{same_word, same_symbol, is_word, is_symb
 
 use crate::symbol::Symbol;
 use crate::word::Word;
-use rx_value::RxText;
+use rx_value::{GREATEST_NUMBER, RxText};
 use std::marker::Model;
 
 /// The bytes of a token as they stand in the file, which contracts see as the list of these bytes.
@@ -42,17 +42,18 @@ pub struct Number {
 
 impl Model for Number {
     ghost use Rattle.std.specs.Prelude.{ℕ, ◌≤◌};
+    ghost use Rattle.rx_value.specs.declared.limits.TheConstants.{GREATEST_NUMBER};
 
     ghost Value = { ℕ };
 
     ghost view = { λ number. number.value };
 
-    ghost invariant = { λ number. number.value ≤ 9223372036854775807 };
+    ghost invariant = { λ number. number.value ≤ GREATEST_NUMBER };
 }
 
 impl Number {
     pub(crate) fn new(value: u64) -> Number
-        requires { value ≤ 9223372036854775807 }
+        requires { value ≤ GREATEST_NUMBER }
         ensures { result ≡ value }
     {
         Number { value }
@@ -60,7 +61,7 @@ impl Number {
 
     pub fn value(&self) -> u64
         ensures value { result ≡ self.now }
-        ensures bound { result ≤ 9223372036854775807 }
+        ensures bound { result ≤ GREATEST_NUMBER }
     {
         self.value
     }

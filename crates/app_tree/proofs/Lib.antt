@@ -1,5 +1,9 @@
 pub mod Numbers
 pub mod Places
+pub mod NoFaults
 pub mod Naming
 pub mod Fitting
 pub mod FitsWorked
+pub mod FewItems
+pub mod SortLaws
+pub mod NumberLaws

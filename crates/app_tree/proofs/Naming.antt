@@ -1,11 +1,10 @@
 -- The app that a draft stands for, where no check refuses the draft, is written as that draft: its names stand for the
 -- numbers that they were resolved to.
-use Rattle.std.proofs.Common.{◌≡◌, ℕ, zero, suc, ◌+◌, Bool, true, false, List, [], ◌∷◌, ◌++◌, map, take, Option, Some, None, slice_get, nat_eq, refl, sym, ◌∙◌, ap, subst, arith}
+use Rattle.std.proofs.Common.{◌≡◌, ℕ, suc, ◌+◌, Bool, true, false, List, [], ◌∷◌, ◌++◌, map, Option, Some, None, slice_get, refl, sym, ◌∙◌, ap, subst}
 use Rattle.std.proofs.lemmas.List.{length-map}
 use Rattle.app_tree.specs.declared.item.Sort.{Sort}
 use Rattle.app_tree.specs.declared.item.Sort.TheVariants as sort
 use Rattle.app_tree.specs.declared.refusal.Fault.TheVariants as fault
-use Rattle.app_tree.specs.declared.refusal.Refusal.{Refusal}
 use Rattle.app_tree.specs.declared.draft_term.Name.{Name}
 use Rattle.app_tree.specs.declared.draft_term.ReadForm.{ReadForm}
 use Rattle.app_tree.specs.declared.draft_term.ReadForm.TheVariants as form
@@ -14,25 +13,11 @@ use Rattle.app_tree.specs.DraftTree as draft
 use Rattle.app_tree.specs.DraftTree.{DraftTree, DraftTrees, DraftDeed, WrittenDeed, DraftAct, DraftActs, WrittenBody, WrittenOutput, WrittenForm, WrittenItem, DraftShape}
 use Rattle.app_tree.specs.Declarations.{Declared, is_input_sort, is_value_sort, is_task_sort, is_named_sort, is_output_sort, is_reader_sort, declaration, declarations, declared_by, node_declarations, declared_by_node, sort_of_form, parameter_count, number_at, source_name, reader_name}
 use Rattle.app_tree.specs.Resolve.{text_of_name, sought_by, innermost, number_or_zero, number_named, named_read, read_to, resolved_read, draft_site_count, draft_site_count_all, act_site_count, acts_site_count, resolved_tree, resolved_trees, resolved_deed, resolved_act, resolved_acts, resolved_output, resolved_form, resolved_item, resolved}
-use Rattle.app_tree.specs.Faults.{refused, name_refused, where_fails, unknown_name, unbound_variable, in_task_fault, forward_read, isolate_in_fold, fold_too_deep, same_variables, argument_count_fault, tree_count, Spot, in_last_part, is_none, term_faults, terms_faults, deed_faults, act_faults, acts_faults, writes_faults, body_faults, output_faults, form_faults, item_faults, items_faults, faults, item_too_many, second_item, repeated_names, spot_in, in_task, in_expression, elsewhere}
+use Rattle.app_tree.specs.Faults.{name_refused, unknown_name, unbound_variable, in_task_fault, forward_read, isolate_in_fold, fold_too_deep, same_variables, argument_count_fault, tree_count, Spot, in_last_part, is_none, term_faults, terms_faults, deed_faults, act_faults, acts_faults, writes_faults, body_faults, output_faults, form_faults, item_faults, items_faults, faults, item_too_many, second_item, repeated_names, spot_in, in_task, in_expression, elsewhere}
 use Rattle.app_tree.specs.Named.{unplaced_name, named_form, name_of_read, variable_name, named_tree, named_trees, named_act, named_acts, named_body, named_output, named_node, named_item, named}
 use Rattle.app_tree.specs.Unplaced.{unplaced_of, unplaced_tree, unplaced_trees, unplaced_deed, unplaced_act, unplaced_acts, unplaced_body, unplaced_output, unplaced_form, unplaced_item, unplaced}
+use Rattle.app_tree.proofs.NoFaults.{nothing_left, nothing_right, holds_not, all_pass}
 use Rattle.app_tree.proofs.Numbers.{Finds, finds, input_name, value_name, task_name, reader_name_at, innermost_name}
-
--- ---- no refusals
-
--- a list of parts is empty where each part is
-nothing_left : (rs ss : List Refusal) → rs ++ ss ≡ [] → rs ≡ []
-nothing_left [] ss e = refl
-nothing_left (r ∷ rs) ss e = absurd cc
-
-nothing_right : (rs ss : List Refusal) → rs ++ ss ≡ [] → ss ≡ []
-nothing_right [] ss e = e
-nothing_right (r ∷ rs) ss e = absurd cc
-
-holds_not : (b : Bool) (r : Refusal) → where_fails b r ≡ [] → b ≡ false
-holds_not true r e = absurd cc
-holds_not false r e = refl
 
 -- ---- names that are declared
 
@@ -353,22 +338,7 @@ declarations_kept table (i ∷ more) = rw (declared_kept table i, declarations_k
 
 -- ---- whole drafts
 
--- a draft that passes the checks has at most 500 items
-few : (table : List Declared) (items : List WrittenItem) (k m : ℕ) → k + m ≡ 500 → items_faults table k (take (suc m) items) ≡ [] → take (suc m) items ≡ items
-few table [] k m at none = refl
-few table (i ∷ more) k zero at none =
-    let here : k ≡ 500 = omega (arith, at) in
-    let one = nothing_left (item_faults table k i) [] none in
-    let two = nothing_left (item_too_many k i ++ second_item table k i) (form_faults table k i.form) one in
-    let is = holds_not (nat_eq k 500) (refused fault.TooManyItems i.place) (nothing_left (item_too_many k i) (second_item table k i) two) in
-    let no : true ≡ false = ap (λ j. nat_eq j 500) (sym here) ∙ is in
-    absurd cc
-few table (i ∷ more) k (suc m) at none =
-    ap (λ rest. i ∷ rest) (few table more (suc k) m (omega (arith, at)) (nothing_right (item_faults table k i) (items_faults table (suc k) (take (suc m) more)) none))
-
 pub named_resolved : (d : DraftShape) → faults d ≡ [] → named (resolved d) ≡ unplaced d
 named_resolved d none =
     let table = declarations d.items in
-    let all : take 501 d.items ≡ d.items = few table d.items 0 500 (omega arith) none in
-    let whole = subst (λ (items : List WrittenItem). items_faults table 0 items ≡ []) all none in
-    rw (declarations_kept table d.items, items_named table 0 d.items whole) refl
+    rw (declarations_kept table d.items, items_named table 0 d.items (all_pass d none)) refl

@@ -13,7 +13,7 @@ use Rattle.app_tree.specs.DraftTree as draft
 use Rattle.app_tree.specs.DraftTree.{DraftTree, DraftTrees, DraftDeed, WrittenDeed, DraftAct, DraftActs, WrittenBody, WrittenOutput, WrittenForm, WrittenItem, DraftShape}
 use Rattle.app_tree.specs.Declarations.{Declared, is_input_sort, is_value_sort, is_task_sort, declaration, declarations, sort_of_form, parameter_count}
 use Rattle.app_tree.specs.Resolve.{text_of_name, draft_site_count, draft_site_count_all, deed_site_count, act_site_count, acts_site_count, resolved_tree, resolved_trees, resolved_deed, resolved_act, resolved_acts, resolved_output, resolved_form, resolved_item, resolved, inner_scope, sought_by, innermost}
-use Rattle.app_tree.specs.Faults.{refused, name_refused, where_fails, unknown_name, in_task_fault, forward_read, read_faults, is_in_task, is_forward, isolate_in_fold, fold_too_deep, same_variables, argument_count_fault, is_other_count, is_among, declared_name, item_too_many, second_item, Spot, in_last_part, is_none, term_faults, terms_faults, tree_count, deed_faults, act_faults, acts_faults, write_faults, writes_faults, spot_in, repeated_names, body_faults, output_faults, form_faults, item_faults, items_faults, faults, in_task, in_expression, elsewhere}
+use Rattle.app_tree.specs.Faults.{refused, name_refused, where_fails, unknown_name, in_task_fault, forward_read, read_faults, is_in_task, is_forward, isolate_in_fold, fold_too_deep, same_variables, argument_count_fault, is_other_count, is_named_among, declared_name, item_too_many, second_item, Spot, in_last_part, is_none, term_faults, terms_faults, tree_count, deed_faults, act_faults, acts_faults, write_faults, writes_faults, spot_in, repeated_names, body_faults, output_faults, form_faults, item_faults, items_faults, faults, in_task, in_expression, elsewhere}
 use Rattle.app_tree.specs.Unplaced.{unplaced_of, unplaced_tree, unplaced_trees, unplaced_deed, unplaced_written, unplaced_act, unplaced_acts, unplaced_body, unplaced_output, unplaced_form, unplaced_item, unplaced}
 
 -- ---- sites
@@ -315,9 +315,9 @@ body_same spot body =
 repeated_same : (before : List (List ℕ)) (names : List Name) → FailAlike (repeated_names before (map unplaced_of names)) (repeated_names before names)
 repeated_same before [] = refl
 repeated_same before (n ∷ more) =
-    join (where_fails (is_among n.text before) (name_refused fault.NameTwice (unplaced_of n))) (repeated_names (before ++ n.text ∷ []) (map unplaced_of more))
-    (where_fails (is_among n.text before) (name_refused fault.NameTwice n)) (repeated_names (before ++ n.text ∷ []) more)
-    (name_where (is_among n.text before) fault.NameTwice n) (repeated_same (before ++ n.text ∷ []) more)
+    join (where_fails (is_named_among n.text before) (name_refused fault.NameTwice (unplaced_of n))) (repeated_names (before ++ n.text ∷ []) (map unplaced_of more))
+    (where_fails (is_named_among n.text before) (name_refused fault.NameTwice n)) (repeated_names (before ++ n.text ∷ []) more)
+    (name_where (is_named_among n.text before) fault.NameTwice n) (repeated_same (before ++ n.text ∷ []) more)
 
 output_same : (table : List Declared) (k : ℕ) (shown : WrittenOutput) → FailAlike (output_faults table k (unplaced_output shown)) (output_faults table k shown)
 output_same table k shown =
@@ -360,7 +360,7 @@ item_same table k i =
     (item_too_many k i ++ second_item table k i) (form_faults table k i.form)
     (join (item_too_many k (unplaced_item i)) (second_item table k (unplaced_item i)) (item_too_many k i) (second_item table k i)
     (place_where (nat_eq k 500) fault.TooManyItems i.place)
-    (name_where (is_among i.name.text (map declared_name (take k table))) fault.NameTwice i.name))
+    (name_where (is_named_among i.name.text (map declared_name (take k table))) fault.NameTwice i.name))
     (form_same table k i.form)
 
 items_same : (table : List Declared) (k : ℕ) (items : List WrittenItem) → FailAlike (items_faults table k (map unplaced_item items)) (items_faults table k items)

@@ -10,7 +10,7 @@ use Rattle.rx_value.specs.declared.source.SourceValue.TheVariants.{Plain, Task, 
 use Rattle.app_tree.specs.declared.term.Read.{Read}
 use Rattle.app_tree.specs.declared.term.Read.TheVariants as read
 use Rattle.app_tree.specs.Tree.{Shape}
-use Rattle.app_tree.specs.Numbering.{width_source, height_source}
+use Rattle.app_tree.specs.Numbering.{SourceNumbers, numbers_of, width_at, height_at}
 
 -- by source number
 abbrev pub CurrentValues : Type 0
@@ -48,12 +48,15 @@ result_outcome (Task seen) = outcome_of_view seen
 result_outcome (Plain x) = o.Stop
 result_outcome (Frozen x) = o.Stop
 
--- what a read of a source is answered; an expression is no source
+-- what a read of a source is answered, by where the sizes stand; an expression is no source
+abbrev pub told_at : SourceNumbers → CurrentValues → Read → Outcome
+told_at numbers values (read.Input s) = plain_outcome (value_at values s)
+told_at numbers values (read.Value s) = plain_outcome (value_at values s)
+told_at numbers values (read.Status s) = status_outcome (value_at values s)
+told_at numbers values (read.Result s) = result_outcome (value_at values s)
+told_at numbers values (read.Width n) = plain_outcome (value_at values (width_at numbers n))
+told_at numbers values (read.Height n) = plain_outcome (value_at values (height_at numbers n))
+told_at numbers values (read.Expr n) = o.Stop
+
 abbrev pub told : Shape → CurrentValues → Read → Outcome
-told app values (read.Input s) = plain_outcome (value_at values s)
-told app values (read.Value s) = plain_outcome (value_at values s)
-told app values (read.Status s) = status_outcome (value_at values s)
-told app values (read.Result s) = result_outcome (value_at values s)
-told app values (read.Width n) = plain_outcome (value_at values (width_source app n))
-told app values (read.Height n) = plain_outcome (value_at values (height_source app n))
-told app values (read.Expr n) = o.Stop
+told app values r = told_at (numbers_of app) values r

@@ -6,9 +6,9 @@ use Rattle.rx_value.specs.declared.value.Value.TheVariants as v
 use Rattle.rx_value.specs.declared.outcome.Outcome.{Outcome}
 use Rattle.rx_value.specs.declared.outcome.Outcome.TheVariants.{Val, Fail, Stop, Cancel}
 use Rattle.rx_value.specs.declared.failure.Failure.TheVariants.{WrongKind, NotACondition}
-use Rattle.rx_value.specs.Failure.{failed}
+use Rattle.rx_value.specs.Failure.{failure_outcome}
 use Rattle.rx_value.specs.Numbers.{numbers_of}
-use Rattle.rx_value.specs.Truth.{truthy}
+use Rattle.rx_value.specs.Truth.{is_truthy}
 use Rattle.rx_value.specs.Operators.{unary_result, binary_result}
 use Rattle.rx_value.specs.Functions.{function_result}
 use Rattle.rx_value.specs.Plot.{plot_result}
@@ -66,7 +66,7 @@ then_with e next = then_by e e.outcome next
 
 abbrev pub wanted_bool : Value → Outcome
 wanted_bool (v.Bool b) = Val (v.Bool b)
-wanted_bool _ = failed NotACondition
+wanted_bool _ = failure_outcome NotACondition
 
 -- the second operand, where the first does not decide by being this
 abbrev pub decided_by : Bool → Meaning → Answers → List Value → Value → Evaluation
@@ -74,7 +74,7 @@ decided_by true m answers args (v.Bool true) = plain (Val (v.Bool true))
 decided_by true m answers args (v.Bool false) = then_with (m answers args) (λ y. plain (wanted_bool y))
 decided_by false m answers args (v.Bool false) = plain (Val (v.Bool false))
 decided_by false m answers args (v.Bool true) = then_with (m answers args) (λ y. plain (wanted_bool y))
-decided_by _ m answers args _ = plain (failed NotACondition)
+decided_by _ m answers args _ = plain (failure_outcome NotACondition)
 
 -- what an operator makes of its first operand's value and of its second operand
 abbrev pub operated : Operator → Meaning → Answers → List Value → Value → Evaluation
@@ -86,24 +86,24 @@ operated (operator.Strict op) m answers args x = then_with (m answers args) (λ 
 abbrev pub chosen_by : Meaning → Meaning → Answers → List Value → Value → Evaluation
 chosen_by m n answers args (v.Bool true) = m answers args
 chosen_by m n answers args (v.Bool false) = n answers args
-chosen_by m n answers args _ = plain (failed NotACondition)
+chosen_by m n answers args _ = plain (failure_outcome NotACondition)
 
 -- ---- functions
 
 abbrev pub plotted : Plot → List Value → Outcome
 plotted p (width ∷ height ∷ title ∷ data_of ∷ []) = plot_result p width height title data_of
-plotted p _ = failed WrongKind
+plotted p _ = failure_outcome WrongKind
 
 abbrev pub called : Function → List Value → Outcome
 called (function.Fun f) xs = function_result f xs
 called (function.Plot p) xs = plotted p xs
 
-abbrev pub stopped : Value → Outcome
-stopped (v.Text t) = Fail t
-stopped _ = failed WrongKind
+abbrev pub stop_outcome : Value → Outcome
+stop_outcome (v.Text t) = Fail t
+stop_outcome _ = failure_outcome WrongKind
 
 abbrev pub required : Bool → Value → Outcome
-required cancels x = if truthy x then Val x else (if cancels then Cancel else Stop)
+required cancels x = if is_truthy x then Val x else (if cancels then Cancel else Stop)
 
 -- ---- folds
 
@@ -113,7 +113,7 @@ over_each step accumulator (z ∷ zs) = then_with (step accumulator z) (λ next.
 
 abbrev pub over_list : (Value → ℤ → Evaluation) → Value → Option (List ℤ) → Evaluation
 over_list step start (Some zs) = over_each step start zs
-over_list step start None = plain (failed WrongKind)
+over_list step start None = plain (failure_outcome WrongKind)
 
 -- ---- isolated sites
 
@@ -134,7 +134,7 @@ abbrev mutual
   evaluate (get r) answers args = read_of answers r
   evaluate (variable n) answers args = plain (Val (unwrap_or (slice_get args n) v.Null))
   evaluate (isolate site t) answers args = at_site site (evaluate t) answers args (answers.site site)
-  evaluate (stop t) answers args = then_with (evaluate t answers args) (λ x. plain (stopped x))
+  evaluate (stop t) answers args = then_with (evaluate t answers args) (λ x. plain (stop_outcome x))
   evaluate (require t cancels) answers args = then_with (evaluate t answers args) (λ x. plain (required cancels x))
   evaluate (fold list start accumulator element body) answers args =
       then_with (evaluate list answers args) (λ x. then_with (evaluate start answers args) (λ y.

@@ -1,5 +1,6 @@
 -- The checks that a draft has to pass: each that it fails, with its place, and the first of them.
 use Rattle.std.specs.Prelude.{ℕ, suc, Bool, true, false, not, ◌&&◌, ◌||◌, List, [], ◌∷◌, ◌++◌, map, take, Option, Some, None, Result, Ok, Err, nat_eq, nat_lt, nat_le, bytes_eq, if◌then◌else◌}
+use Rattle.app_tree.specs.declared.limits.TheConstants.{ITEM_LIMIT, FOLD_LIMIT}
 use Rattle.app_tree.specs.declared.item.Sort.{Sort}
 use Rattle.app_tree.specs.declared.item.Sort.TheVariants as sort
 use Rattle.app_tree.specs.declared.refusal.Fault.{Fault}
@@ -105,7 +106,7 @@ isolate_in_fold spot place = where_fails (nat_le 1 spot.last_parts) (refused fau
 
 -- a fold in the last part of a fold that stands in the last part of a fold
 abbrev pub fold_too_deep : Spot → ℕ → List Refusal
-fold_too_deep spot place = where_fails (nat_le 2 spot.last_parts) (refused fault.FoldTooDeep place)
+fold_too_deep spot place = where_fails (nat_le FOLD_LIMIT spot.last_parts) (refused fault.FoldTooDeep place)
 
 -- the second variable of a fold, where both have one name
 abbrev pub same_variables : Name → Name → List Refusal
@@ -180,15 +181,15 @@ body_faults spot body = writes_faults spot body.writes ++ term_faults spot body.
 abbrev pub spot_in : List Declared → ℕ → Holder → List (List ℕ) → Spot
 spot_in table k holder scope = record { table = table; item = k; holder = holder; scope = scope; last_parts = 0 }
 
-abbrev pub is_among : List ℕ → List (List ℕ) → Bool
-is_among name [] = false
-is_among name (x ∷ more) = bytes_eq name x || is_among name more
+abbrev pub is_named_among : List ℕ → List (List ℕ) → Bool
+is_named_among name [] = false
+is_named_among name (x ∷ more) = bytes_eq name x || is_named_among name more
 
 -- each name that stands before, among the names of which these stand behind `before`
 abbrev pub repeated_names : List (List ℕ) → List Name → List Refusal
 repeated_names before [] = []
 repeated_names before (name ∷ more) =
-    where_fails (is_among name.text before) (name_refused fault.NameTwice name) ++ repeated_names (before ++ name.text ∷ []) more
+    where_fails (is_named_among name.text before) (name_refused fault.NameTwice name) ++ repeated_names (before ++ name.text ∷ []) more
 
 abbrev pub output_faults : List Declared → ℕ → WrittenOutput → List Refusal
 output_faults table k shown =
@@ -214,11 +215,11 @@ declared_name d = d.name
 
 -- the item is a second one of its name
 abbrev pub second_item : List Declared → ℕ → WrittenItem → List Refusal
-second_item table k i = where_fails (is_among i.name.text (map declared_name (take k table))) (name_refused fault.NameTwice i.name)
+second_item table k i = where_fails (is_named_among i.name.text (map declared_name (take k table))) (name_refused fault.NameTwice i.name)
 
--- the item is a 501st
+-- the item is one more than an app may have
 abbrev pub item_too_many : ℕ → WrittenItem → List Refusal
-item_too_many k i = where_fails (nat_eq k 500) (refused fault.TooManyItems i.place)
+item_too_many k i = where_fails (nat_eq k ITEM_LIMIT) (refused fault.TooManyItems i.place)
 
 abbrev pub item_faults : List Declared → ℕ → WrittenItem → List Refusal
 item_faults table k i = (item_too_many k i ++ second_item table k i) ++ form_faults table k i.form
@@ -227,26 +228,26 @@ abbrev pub items_faults : List Declared → ℕ → List WrittenItem → List Re
 items_faults table k [] = []
 items_faults table k (i ∷ more) = item_faults table k i ++ items_faults table (suc k) more
 
--- each check that the draft fails, with its place; of items behind the 501st, which is refused itself, only the names
--- are looked at, since they are declared
+-- each check that the draft fails, with its place; of items behind the first too many, which is refused itself, only the
+-- names are looked at, since they are declared
 abbrev pub faults : DraftShape → List Refusal
-faults d = items_faults (declarations d.items) 0 (take 501 d.items)
+faults d = items_faults (declarations d.items) 0 (take (suc ITEM_LIMIT) d.items)
 
 -- ---- the first refusal: that of the smallest place, at one place that which is first among the kinds of faults
 
-abbrev pub rank_of : Fault → ℕ
-rank_of fault.TooManyItems = 0
-rank_of fault.NameTwice = 1
-rank_of fault.NameUnknown = 2
-rank_of fault.ArgCount = 3
-rank_of fault.ReadInTask = 4
-rank_of fault.ForwardRead = 5
-rank_of fault.IsolateInFold = 6
-rank_of fault.WriteInExpr = 7
-rank_of fault.FoldTooDeep = 8
+abbrev pub fault_order : Fault → ℕ
+fault_order fault.TooManyItems = 0
+fault_order fault.NameTwice = 1
+fault_order fault.NameUnknown = 2
+fault_order fault.ArgCount = 3
+fault_order fault.ReadInTask = 4
+fault_order fault.ForwardRead = 5
+fault_order fault.IsolateInFold = 6
+fault_order fault.WriteInExpr = 7
+fault_order fault.FoldTooDeep = 8
 
 abbrev pub precedes : Refusal → Refusal → Bool
-precedes r s = nat_lt r.place s.place || nat_eq r.place s.place && nat_lt (rank_of r.fault) (rank_of s.fault)
+precedes r s = nat_lt r.place s.place || nat_eq r.place s.place && nat_lt (fault_order r.fault) (fault_order s.fault)
 
 -- the one of two that precedes, and else the one that is there
 abbrev pub earlier : Option Refusal → Refusal → Option Refusal

@@ -6,12 +6,14 @@
 use Rattle.std.specs.Prelude.{ℕ, zero, suc, ◌+◌, ℤ, pos, negsuc, Bool, true, false, ◌&&◌, ◌||◌, List, length, Option, Some, nat_eq, nat_le, nat_lt}
 use Rattle.std.specs.List.{list_all}
 use Rattle.std.specs.Str.{is_utf8}
+use Rattle.rx_value.specs.declared.limits.TheConstants.{TEXT_LIMIT, LIST_LIMIT, GREATEST_NUMBER}
 use Rattle.rx_value.specs.declared.value.Value.{Value}
 use Rattle.rx_value.specs.declared.value.Value.TheVariants as v
 use Rattle.rx_value.specs.declared.operator.BinOp.{BinOp}
 use Rattle.rx_value.specs.declared.operator.BinOp.TheVariants as bin
 use Rattle.rx_value.specs.Functions.{argument_count, is_count}
 use Rattle.rx_value.specs.Names.{is_name}
+use Rattle.app_tree.specs.declared.limits.TheConstants.{LEVEL_LIMIT, OPERATOR_LIMIT, BUDGET_LIMIT}
 use Rattle.app_tree.specs.declared.term.Operator.{Operator}
 use Rattle.app_tree.specs.declared.term.Operator.TheVariants as operator
 use Rattle.app_tree.specs.declared.term.Function.{Function}
@@ -21,11 +23,11 @@ use Rattle.app_tree.specs.DraftTree.{DraftTree, constant, group, read, variable,
 
 -- ---- numbers and texts
 
--- the greatest number that can be written is 9,223,372,036,854,775,807
+-- no number is written that is greater than the greatest one
 abbrev pub is_natural : ℕ → Bool
-is_natural n = nat_le n 9223372036854775807
+is_natural n = nat_le n GREATEST_NUMBER
 
--- with a sign a number goes from minus that one to that one
+-- with a sign a number goes from minus the greatest one to the greatest one
 abbrev pub is_number : ℤ → Bool
 is_number (pos n) = is_natural n
 is_number (negsuc n) = is_natural (suc n)
@@ -34,13 +36,13 @@ is_number (negsuc n) = is_natural (suc n)
 abbrev pub is_text_byte : ℕ → Bool
 is_text_byte b = nat_le 32 b || nat_eq b 10
 
--- at most 65,536 of these bytes, which are UTF-8
+-- at most as many of these bytes as a text may have, which are UTF-8
 abbrev pub is_text : List ℕ → Bool
-is_text bytes = nat_le (length bytes) 65536 && list_all is_text_byte bytes && is_utf8 bytes
+is_text bytes = nat_le (length bytes) TEXT_LIMIT && list_all is_text_byte bytes && is_utf8 bytes
 
--- at most 1,000 numbers
+-- at most as many numbers as a list may have
 abbrev pub are_numbers : List ℤ → Bool
-are_numbers numbers = nat_le (length numbers) 1000 && list_all is_number numbers
+are_numbers numbers = nat_le (length numbers) LIST_LIMIT && list_all is_number numbers
 
 -- what an input or a value may start with
 abbrev pub constant_fits : Value → Bool
@@ -127,10 +129,10 @@ abbrev pub deeper : ℕ → (ℕ → Bool) → Bool
 deeper zero fits = false
 deeper (suc levels) fits = fits levels
 
--- a part that is one level deeper and a term of its own, which has at most 64 operators
+-- a part that is one level deeper and a term of its own, which has no more operators than it may
 abbrev pub whole_in : DraftTree → ℕ → (ℕ → Bool) → Bool
 whole_in t zero fits = false
-whole_in t (suc levels) fits = nat_le (operators t) 64 && fits levels
+whole_in t (suc levels) fits = nat_le (operators t) OPERATOR_LIMIT && fits levels
 
 -- a term below whose own level there are so many levels: what stands in its brackets, the parts of an `if` term and the
 -- operand of a sign are one level deeper, while operands share the level of their operator
@@ -160,13 +162,13 @@ abbrev mutual
   terms_fit no_trees levels = true
   terms_fit (tree t ts) levels = whole_in t levels (λ below. term_fits t below) && terms_fit ts levels
 
--- a term that stands by itself, in a statement, a key, a body, an event or a task: 64 levels, of which it is the first
+-- a term that stands by itself, in a statement, a key, a body, an event or a task: all levels, of which it is the first
 abbrev pub whole_fits : DraftTree → Bool
-whole_fits t = whole_in t 64 (term_fits t)
+whole_fits t = whole_in t LEVEL_LIMIT (term_fits t)
 
 -- the same of each of a list
 abbrev pub all_fit : DraftTrees → Bool
-all_fit ts = terms_fit ts 64
+all_fit ts = terms_fit ts LEVEL_LIMIT
 
 -- ---- statements
 
@@ -192,9 +194,9 @@ abbrev mutual
   acts_fit no_acts levels = true
   acts_fit (act a more) levels = act_fits a levels && acts_fit more levels
 
--- the block of an item: 64 levels, of which it is the first
+-- the block of an item, which is the first of its levels
 abbrev pub block_fits : DraftActs → Bool
-block_fits block = acts_fit block 63
+block_fits block = deeper LEVEL_LIMIT (λ below. acts_fit block below)
 
 abbrev pub body_fits : WrittenBody → Bool
 body_fits body = list_all write_fits body.writes && whole_fits body.term
@@ -218,9 +220,9 @@ form_fits (on priority flags e block) = is_number priority && whole_fits e && bl
 abbrev pub item_fits : WrittenItem → Bool
 item_fits item = form_fits item.form
 
--- a flush may take from 1 to 1,000,000 runs
+-- a flush may make one run at least
 abbrev pub is_budget : ℕ → Bool
-is_budget n = nat_le 1 n && nat_le n 1000000
+is_budget n = nat_le 1 n && nat_le n BUDGET_LIMIT
 
 -- a text can give this draft, but for the spelling of item names
 abbrev pub fits : DraftShape → Bool

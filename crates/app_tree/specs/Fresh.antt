@@ -8,7 +8,7 @@ use Rattle.rx_value.specs.declared.value.Value.TheVariants as v
 use Rattle.rx_value.specs.declared.outcome.Outcome.{Outcome}
 use Rattle.rx_value.specs.declared.outcome.Outcome.TheVariants.{Val, Stop}
 use Rattle.rx_value.specs.declared.failure.Failure.TheVariants.{WrongKind}
-use Rattle.rx_value.specs.Failure.{failed}
+use Rattle.rx_value.specs.Failure.{failure_outcome}
 use Rattle.rx_value.specs.Functions.{is_null}
 use Rattle.app_tree.specs.declared.term.Read.{Read}
 use Rattle.app_tree.specs.declared.term.Read.TheVariants as read
@@ -58,7 +58,7 @@ event_body flags e body answers x =
 abbrev pub picture : Outcome → Outcome
 picture (Val (v.Text t)) = Val (v.Text t)
 picture (Val v.Null) = Val v.Null
-picture (Val x) = failed WrongKind
+picture (Val x) = failure_outcome WrongKind
 picture outcome = outcome
 
 abbrev pub rendered : Evaluation → Evaluation

@@ -17,6 +17,8 @@ pub mod CoverExamples
 pub mod DraftTree
 pub mod DraftView
 pub mod Declarations
+pub mod Sorts
+pub mod FewSources
 pub mod Resolve
 pub mod Faults
 pub mod Named

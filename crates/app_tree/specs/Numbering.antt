@@ -1,5 +1,5 @@
 -- How an app's sources and readers are numbered, each from 0.
-use Rattle.std.specs.Prelude.{ℕ, suc, ◌+◌, Bool, true, false, ◌&&◌, ◌||◌, List, [], ◌∷◌, ◌++◌, map, filter, take, length, Option, Some, None, slice_get, bytes_eq, if◌then◌else◌}
+use Rattle.std.specs.Prelude.{ℕ, suc, ◌+◌, Bool, true, false, ◌&&◌, ◌||◌, List, [], ◌∷◌, ◌++◌, map, filter, length, Option, Some, None, slice_get, unwrap_or, bytes_eq, if◌then◌else◌}
 use Rattle.rx_value.specs.declared.value.Value.TheVariants.{Null}
 use Rattle.rx_value.specs.declared.source.TaskView.TheVariants.{Initial}
 use Rattle.rx_value.specs.declared.source.SourceValue.{SourceValue}
@@ -85,12 +85,42 @@ starting_values items = map declared_value (declared_sources items) ++ unknown_s
 abbrev pub output_count : List Node → ℕ
 output_count items = length (filter is_output items)
 
+-- for each of these readers how many outputs stand before it, where n stand before the first
+abbrev pub outputs_before_each : ℕ → List Node → List ℕ
+outputs_before_each n [] = []
+outputs_before_each n (i ∷ more) = n ∷ outputs_before_each (if is_output i then suc n else n) more
+
+-- where the sizes of the outputs stand among the sources: how many sources are no sizes, how many outputs there are, and for
+-- each reader how many outputs stand before it
+pub record SourceNumbers : Type 0 where
+  pub declared : ℕ
+  pub outputs : ℕ
+  pub before : List ℕ
+
+abbrev pub numbers_of : Shape → SourceNumbers
+numbers_of app = record {
+  declared = length (declared_sources app.items);
+  outputs = output_count app.items;
+  before = outputs_before_each 0 (readers app);
+}
+
+-- all outputs stand before a number behind the readers
+abbrev pub outputs_before : SourceNumbers → ℕ → ℕ
+outputs_before numbers n = unwrap_or (slice_get numbers.before n) numbers.outputs
+
 -- the number of the source that is the width of the output of reader number n
+abbrev pub width_at : SourceNumbers → ℕ → ℕ
+width_at numbers n = numbers.declared + outputs_before numbers n
+
+-- the heights follow the widths
+abbrev pub height_at : SourceNumbers → ℕ → ℕ
+height_at numbers n = width_at numbers n + numbers.outputs
+
 abbrev pub width_source : Shape → ℕ → ℕ
-width_source app n = length (declared_sources app.items) + output_count (take n (readers app))
+width_source app n = width_at (numbers_of app) n
 
 abbrev pub height_source : Shape → ℕ → ℕ
-height_source app n = width_source app n + output_count app.items
+height_source app n = height_at (numbers_of app) n
 
 -- ---- numbers by name
 
@@ -107,3 +137,7 @@ input_number name items = number_from is_input is_input 0 name items
 -- the reader number of the output of this name
 abbrev pub output_number : List ℕ → List Node → Option ℕ
 output_number name items = number_from is_reader is_output 0 name items
+
+-- the place of the first item of this name among the items, from 0
+abbrev pub place_of : List ℕ → List Node → Option ℕ
+place_of name items = number_from (λ i. true) (λ i. true) 0 name items

@@ -14,7 +14,9 @@ pub trait CacheName {
 }
 
 impl CacheName for Brand {
-    ghost app = { record { budget = 1000; items = [] } };
+    ghost use Rattle.app_tree.specs.declared.limits.TheConstants.{BUDGET_DEFAULT};
+
+    ghost app = { record { budget = BUDGET_DEFAULT; items = [] } };
 
     ghost entries = { 1 };
 

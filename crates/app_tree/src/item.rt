@@ -99,6 +99,7 @@ pub type Items = RxList<Item>;
 
 impl Item {
     ghost use Rattle.app_tree.specs.View.{node_of};
+    ghost use Rattle.app_tree.specs.Declarations.{sort_of_node};
     ghost use Rattle.app_tree.specs.Numbering.{name_of, is_input, is_value, is_task, is_expression, is_output, is_observer, is_reader};
 
     /// The item's name, of whatever kind it is.
@@ -115,6 +116,23 @@ impl Item {
             Item::Plot { name, .. } => name,
             Item::Observe { name, .. } => name,
             Item::On { name, .. } => name,
+        }
+    }
+
+    /// The sort of what it declares.
+    pub fn sort(&self) -> Sort
+        ensures { result ≡ sort_of_node (node_of self.now) }
+    {
+        match self {
+            Item::Input { .. } => Sort::Input,
+            Item::Value { .. } => Sort::Value,
+            Item::Task { .. } => Sort::Task,
+            Item::Reactive { .. } => Sort::Expression,
+            Item::Event { .. } => Sort::Expression,
+            Item::Text { .. } => Sort::Output,
+            Item::Plot { .. } => Sort::Output,
+            Item::Observe { .. } => Sort::Observer,
+            Item::On { .. } => Sort::Observer,
         }
     }
 

@@ -15,11 +15,13 @@ mod draft_item;
 mod draft_term;
 mod examples;
 mod item;
+mod limits;
+mod numbering;
 mod refusal;
+mod sorts;
+mod source_numbers;
 mod statement;
 mod term;
-#[cfg(test)]
-mod tests;
 
 pub use app::App;
 pub use cache_name::CacheName;
@@ -31,6 +33,11 @@ pub use draft_item::{
 pub use draft_term::{DraftTerm, DraftTerms, Name, Names, ReadForm};
 pub use examples::{cover_examples, fits_examples, term_examples, wanted_examples};
 pub use item::{Flags, Item, Items, Output, Sort};
+pub use limits::{
+    BUDGET_DEFAULT, BUDGET_LIMIT, FOLD_LIMIT, ITEM_LIMIT, LEVEL_LIMIT, OPERATOR_LIMIT,
+};
 pub use refusal::{Fault, Refusal};
+pub use sorts::Sorts;
+pub use source_numbers::SourceNumbers;
 pub use statement::{Block, Statement};
 pub use term::{Function, Operator, Read, Term, Terms};

@@ -5,7 +5,7 @@ use Rattle.rx_value.specs.declared.key.Key.{Key}
 use Rattle.rx_value.specs.declared.outcome.Outcome.{Outcome}
 use Rattle.rx_value.specs.Value.{key_eq}
 use Rattle.rx_value.specs.Keys.{same_key, key_eq-itself}
-use Rattle.cache_book.specs.Machine.{used, without_last}
+use Rattle.cache_book.specs.Machine.{entries_after_use, without_last}
 use Rattle.cache_book.specs.Answers.{AreApart}
 
 module _ {K V : Type 0} (test : K → Bool) where
@@ -37,9 +37,9 @@ module _ {K V : Type 0} (test : K → Bool) where
     | false ↦ λ t. rw t (in_appended es k v w (rw t at h))
   ]) refl
 
-pub apart_used : (fl : List (Key × ℕ)) (es : List (Key × Outcome)) (k : Key) (o : Outcome) → lookup (key_eq k) es ≡ Some o → AreApart fl es → AreApart fl (used k o es)
+pub apart_used : (fl : List (Key × ℕ)) (es : List (Key × Outcome)) (k : Key) (o : Outcome) → lookup (key_eq k) es ≡ Some o → AreApart fl es → AreApart fl (entries_after_use k o es)
 apart_used fl es k o h a = record {
-  apart = λ q p flies. (elim (key_eq q k) as (λ y. key_eq q k ≡ y → lookup (key_eq q) (used k o es) ≡ None) [
+  apart = λ q p flies. (elim (key_eq q k) as (λ y. key_eq q k ≡ y → lookup (key_eq q) (entries_after_use k o es) ≡ None) [
     | true ↦ λ t. let none : lookup (key_eq k) es ≡ None = subst (λ (j : Key). lookup (key_eq j) es ≡ None) (same_key q k t) (a.apart q p flies) in cc
     | false ↦ λ t. rw t (absent_removed (key_eq q) (key_eq k) es (a.apart q p flies))
   ]) refl;

@@ -14,7 +14,7 @@ use Rattle.lru.specs.LruCache.{LruCache, put_entries, promoted, last_entry}
 use Rattle.lru.proofs.Pairs.{lookup-lookup_entry}
 use Rattle.lru.proofs.CallerLemmas.{Contains-lookup_entry}
 use Rattle.cache_book.specs.declared.limits.CacheLimits.{CacheLimits}
-use Rattle.cache_book.specs.Machine.{total_weight, fits, used, without_last}
+use Rattle.cache_book.specs.Machine.{total_weight, are_within, entries_after_use, without_last}
 
 no_entry : {K V : Type 0} (o : Option (K × V)) → option_map (λ e. e.1) o ≡ None → o ≡ None
 no_entry None h = refl
@@ -29,16 +29,16 @@ put_new c k o none room =
 
 -- an entry that is used stands in front
 promoted_entry : (k : Key) (es : List (Key × Outcome)) (o : Option (Key × Outcome)) → lookup_entry (key_eq k) es ≡ o
-    → MatchOption (option_map (λ e. e.1) o) (promoted (key_eq k) es ≡ es) (λ v. promoted (key_eq k) es ≡ used k v es)
+    → MatchOption (option_map (λ e. e.1) o) (promoted (key_eq k) es ≡ es) (λ v. promoted (key_eq k) es ≡ entries_after_use k v es)
 promoted_entry k es None h = rw h refl
 promoted_entry k es (Some e) h =
     let same : k ≡ e.0 = same_key k e.0 (Contains-lookup_entry (key_eq k) es e h).1 in
     rw h (ap (λ (j : Key). (j, e.1) ∷ remove_entry (key_eq k) es) (sym same))
 
 pub promoted_used : (k : Key) (es : List (Key × Outcome))
-    → MatchOption (lookup (key_eq k) es) (promoted (key_eq k) es ≡ es) (λ v. promoted (key_eq k) es ≡ used k v es)
+    → MatchOption (lookup (key_eq k) es) (promoted (key_eq k) es ≡ es) (λ v. promoted (key_eq k) es ≡ entries_after_use k v es)
 promoted_used k es =
-    let P : Option Outcome → Type 0 = λ v. MatchOption v (promoted (key_eq k) es ≡ es) (λ v. promoted (key_eq k) es ≡ used k v es) in
+    let P : Option Outcome → Type 0 = λ v. MatchOption v (promoted (key_eq k) es ≡ es) (λ v. promoted (key_eq k) es ≡ entries_after_use k v es) in
     subst P (lookup-lookup_entry (key_eq k) es) (promoted_entry k es (lookup_entry (key_eq k) es) refl)
 
 module _ {K V : Type 0} (f : K × V → ℕ) (test : K → Bool) where
@@ -99,11 +99,11 @@ last_there (e ∷ es) h n =
     let is = slice_get-get_or (e ∷ es) (length (e ∷ es) - 1) e (omega arith) in cc
 
 -- after a use as many entries are kept, of the same weight
-pub fits_used : (limits : CacheLimits) (k : Key) (es : List (Key × Outcome)) (o : Outcome) → lookup (key_eq k) es ≡ Some o
-    → fits limits (used k o es) ≡ fits limits es
-fits_used limits k es o h =
-    let P : Option Outcome → Type 0 = λ v. MatchOption v (promoted (key_eq k) es ≡ es) (λ v. promoted (key_eq k) es ≡ used k v es) in
-    let is : promoted (key_eq k) es ≡ used k o es = subst P h (promoted_used k es) in
-    let n : length (used k o es) ≡ length es = sym (ap length is) ∙ length_promoted {V = Outcome} (λ _. 0) (key_eq k) es in
-    let w : total_weight (used k o es) ≡ total_weight es = sym (ap total_weight is) ∙ weight_promoted (key_eq k) es in
+pub are_within-entries_after_use : (limits : CacheLimits) (k : Key) (es : List (Key × Outcome)) (o : Outcome) → lookup (key_eq k) es ≡ Some o
+    → are_within limits (entries_after_use k o es) ≡ are_within limits es
+are_within-entries_after_use limits k es o h =
+    let P : Option Outcome → Type 0 = λ v. MatchOption v (promoted (key_eq k) es ≡ es) (λ v. promoted (key_eq k) es ≡ entries_after_use k v es) in
+    let is : promoted (key_eq k) es ≡ entries_after_use k o es = subst P h (promoted_used k es) in
+    let n : length (entries_after_use k o es) ≡ length es = sym (ap length is) ∙ length_promoted {V = Outcome} (λ _. 0) (key_eq k) es in
+    let w : total_weight (entries_after_use k o es) ≡ total_weight es = sym (ap total_weight is) ∙ weight_promoted (key_eq k) es in
     λ i. nat_le (n i) limits.entries && nat_le (w i) limits.bytes

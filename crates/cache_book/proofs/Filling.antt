@@ -8,12 +8,12 @@ use Rattle.rx_value.specs.Value.{key_eq}
 use Rattle.rx_value.specs.Weight.{entry_weight}
 use Rattle.cache_book.specs.declared.answer.Filled.{Filled}
 use Rattle.cache_book.specs.declared.answer.Filled.TheVariants as f
-use Rattle.cache_book.specs.Machine.{CacheState, fills, stored, too_heavy, landed, fits}
-use Rattle.cache_book.specs.Answers.{Answers, Stores, AreApart, reply_of_fill}
+use Rattle.cache_book.specs.Machine.{CacheState, fills, stored, too_heavy, without_flight, are_within}
+use Rattle.cache_book.specs.Answers.{AnswersCall, Stores, AreApart, reply_of_fill}
 use Rattle.cache_book.proofs.Apart.{HasLanded, apart_landed, apart_stored}
 
 pub refused : (s : CacheState) (k : Key) (p : ℕ) (o : Outcome) → s.limits.bytes < entry_weight k o
-    → Answers s (fills k p o) (Some too_heavy) (landed k s)
+    → AnswersCall s (fills k p o) (Some too_heavy) (without_flight k s)
 refused s k p o heavy = record {
   replies = rw (lt-ltb s.limits.bytes (entry_weight k o) heavy) refl;
   leaves = refl;
@@ -23,7 +23,7 @@ abbrev pub filled_state : CacheState → List (Key × Outcome) → Key → Cache
 filled_state s es k = record { limits = s.limits; entries = es; in_flight = remove_entry (key_eq k) s.in_flight }
 
 pub answered : (s : CacheState) (k : Key) (p : ℕ) (o : Outcome) (r : Filled) (es : List (Key × Outcome)) → entry_weight k o ≤ s.limits.bytes
-    → Stores s.limits (k, o) s.entries r es → Answers s (fills k p o) (Some (reply_of_fill r)) (filled_state s es k)
+    → Stores s.limits (k, o) s.entries r es → AnswersCall s (fills k p o) (Some (reply_of_fill r)) (filled_state s es k)
 answered s k p o (f.Stored d) es light kept = record {
   replies = rw (le-ltb s.limits.bytes (entry_weight k o) light) (ap stored kept.0);
   leaves = ap (λ (l : List (Key × Outcome)). filled_state s l k) kept.1;
@@ -35,10 +35,10 @@ answered s k p o f.Dropped es light kept = record {
 answered s k p o f.TooHeavy es light kept = absurd kept
 
 -- what stays true of the entries and of what is in flight
-pub kept_within : (s : CacheState) (k : Key) (o : Outcome) (r : Filled) (es : List (Key × Outcome)) → fits s.limits s.entries ≡ true
-    → Stores s.limits (k, o) s.entries r es → fits s.limits es ≡ true
+pub kept_within : (s : CacheState) (k : Key) (o : Outcome) (r : Filled) (es : List (Key × Outcome)) → are_within s.limits s.entries ≡ true
+    → Stores s.limits (k, o) s.entries r es → are_within s.limits es ≡ true
 kept_within s k o (f.Stored d) es within kept = kept.2
-kept_within s k o f.Dropped es within kept = ap (fits s.limits) kept ∙ within
+kept_within s k o f.Dropped es within kept = ap (are_within s.limits) kept ∙ within
 kept_within s k o f.TooHeavy es within kept = absurd kept
 
 pub kept_apart : (s : CacheState) (k : Key) (o : Outcome) (r : Filled) (es : List (Key × Outcome)) (gone : List (Key × ℕ)) → HasLanded k s.in_flight gone

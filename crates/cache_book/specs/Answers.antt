@@ -11,7 +11,8 @@ use Rattle.cache_book.specs.declared.answer.BookClaim.TheVariants as b
 use Rattle.cache_book.specs.declared.answer.Filled.{Filled}
 use Rattle.cache_book.specs.declared.answer.Filled.TheVariants as f
 use Rattle.cache_book.specs.declared.limits.CacheLimits.{CacheLimits}
-use Rattle.cache_book.specs.Machine.{CacheState, CacheCall, CacheReply, hit, busy, mine, stored, dropped, too_heavy, cache_after, IsReplyTo, fits, without_last, evicted}
+use Rattle.cache_book.specs.declared.limits.TheConstants.{ENTRY_LIMIT, BYTE_LIMIT}
+use Rattle.cache_book.specs.Machine.{CacheState, CacheCall, CacheReply, hit, busy, mine, stored, dropped, too_heavy, cache_after, IsReplyTo, are_within, without_last, evicted_count}
 
 -- a claim that found no memory is no call of the machine
 abbrev pub reply_of_claim : BookClaim → Option CacheReply
@@ -26,22 +27,25 @@ reply_of_fill f.Dropped = dropped
 reply_of_fill f.TooHeavy = too_heavy
 
 -- the machine may answer so, and holds afterwards what the cache does; without an answer nothing changes
-pub record Answers (s : CacheState) (call : CacheCall) (reply : Option CacheReply) (after : CacheState) : Type 0 where
+pub record AnswersCall (s : CacheState) (call : CacheCall) (reply : Option CacheReply) (after : CacheState)
+    : Type 0 where
   pub replies : IfSome reply (IsReplyTo s call)
   pub leaves : after ≡ option_map_or (cache_after s call) reply s
 
 abbrev pub AreInRange : CacheLimits → Type 0
-AreInRange limits = (0 < limits.entries) × (limits.entries ≤ 20000) × (0 < limits.bytes) × (limits.bytes ≤ 1000000000)
+AreInRange limits =
+    (0 < limits.entries) × (limits.entries ≤ ENTRY_LIMIT) × (0 < limits.bytes) × (limits.bytes ≤ BYTE_LIMIT)
 
 -- d is the least number of entries that have to go from the back of es for the rest to fit
 pub record IsLeastFit (limits : CacheLimits) (es : List (Key × Outcome)) (d : ℕ) : Type 0 where
   pub below : d < length es
-  pub fit : fits limits (without_last d es) ≡ true
-  pub tight : (i : ℕ) → i < d → fits limits (without_last i es) ≡ false
+  pub fit : are_within limits (without_last d es) ≡ true
+  pub tight : (i : ℕ) → i < d → are_within limits (without_last i es) ≡ false
 
 -- what became of an entry that is light enough, and of the earlier entries es
 abbrev pub Stores : CacheLimits → Key × Outcome → List (Key × Outcome) → Filled → List (Key × Outcome) → Type 0
-Stores limits e es (f.Stored d) after = (d ≡ evicted limits e es) × (after ≡ e ∷ without_last d es) × (fits limits after ≡ true)
+Stores limits e es (f.Stored d) after =
+    (d ≡ evicted_count limits e es) × (after ≡ e ∷ without_last d es) × (are_within limits after ≡ true)
 Stores limits e es f.Dropped after = after ≡ es
 Stores limits e es f.TooHeavy after = ⊥
 
@@ -53,7 +57,7 @@ pub record AreApart (in_flight : List (Key × ℕ)) (entries : List (Key × Outc
 -- flight, and no key that is in flight is kept.
 pub record IsSound (s : CacheState) : Type 0 where
   pub in_range : AreInRange s.limits
-  pub within : fits s.limits s.entries ≡ true
+  pub within : are_within s.limits s.entries ≡ true
   pub kept_once : IsDistinct key_eq (keys_of s.entries)
   pub in_flight_once : IsDistinct key_eq (keys_of s.in_flight)
   pub apart : AreApart s.in_flight s.entries

@@ -50,8 +50,8 @@ owner_in_flight s k = lookup (key_eq k) s.in_flight
 abbrev pub total_weight : List (Key × Outcome) → ℕ
 total_weight es = sum_by (λ e. entry_weight e.0 e.1) es
 
-abbrev pub fits : CacheLimits → List (Key × Outcome) → Bool
-fits limits es = nat_le (length es) limits.entries && nat_le (total_weight es) limits.bytes
+abbrev pub are_within : CacheLimits → List (Key × Outcome) → Bool
+are_within limits es = nat_le (length es) limits.entries && nat_le (total_weight es) limits.bytes
 
 abbrev pub without_last : ℕ → List (Key × Outcome) → List (Key × Outcome)
 without_last d es = take (length es - d) es
@@ -62,8 +62,8 @@ least test zero = zero
 least test (suc n) = if test 0 then 0 else suc (least (λ d. test (suc d)) n)
 
 -- the least number of earlier entries that have to go from the back for this entry to go in front
-abbrev pub evicted : CacheLimits → Key × Outcome → List (Key × Outcome) → ℕ
-evicted limits e es = least (λ d. fits limits (e ∷ without_last d es)) (length es)
+abbrev pub evicted_count : CacheLimits → Key × Outcome → List (Key × Outcome) → ℕ
+evicted_count limits e es = least (λ d. are_within limits (e ∷ without_last d es)) (length es)
 
 abbrev pub claim_reply : Option Outcome → Option ℕ → CacheReply
 claim_reply (Some o) p = hit o
@@ -74,7 +74,7 @@ claim_reply None None = mine
 abbrev pub cache_reply : CacheState → CacheCall → CacheReply
 cache_reply s (claims k p) = claim_reply (kept_outcome s k) (owner_in_flight s k)
 cache_reply s (fills k p o) =
-    if nat_lt s.limits.bytes (entry_weight k o) then too_heavy else stored (evicted s.limits (k, o) s.entries)
+    if nat_lt s.limits.bytes (entry_weight k o) then too_heavy else stored (evicted_count s.limits (k, o) s.entries)
 cache_reply s (abandons k p) = abandoned
 
 abbrev pub IsStored : CacheReply → Type 0
@@ -94,18 +94,18 @@ IsAllowed s (fills k p o) = owner_in_flight s k ≡ Some p
 IsAllowed s (abandons k p) = owner_in_flight s k ≡ Some p
 
 -- the key leaves flight
-abbrev pub landed : Key → CacheState → CacheState
-landed k s = record s { in_flight = remove_entry (key_eq k) s.in_flight }
+abbrev pub without_flight : Key → CacheState → CacheState
+without_flight k s = record s { in_flight = remove_entry (key_eq k) s.in_flight }
 
 -- the entries once the outcome of k, which is kept, was used
-abbrev pub used : Key → Outcome → List (Key × Outcome) → List (Key × Outcome)
-used k o es = (k, o) ∷ remove_entry (key_eq k) es
+abbrev pub entries_after_use : Key → Outcome → List (Key × Outcome) → List (Key × Outcome)
+entries_after_use k o es = (k, o) ∷ remove_entry (key_eq k) es
 
 -- what the cache holds after a call that was answered so
 abbrev pub cache_after : CacheState → CacheCall → CacheReply → CacheState
-cache_after s (claims k p) (hit o) = record s { entries = used k o s.entries }
+cache_after s (claims k p) (hit o) = record s { entries = entries_after_use k o s.entries }
 cache_after s (claims k p) mine = record s { in_flight = s.in_flight ++ (k, p) ∷ [] }
 cache_after s (claims k p) _ = s
-cache_after s (fills k p o) (stored d) = record (landed k s) { entries = (k, o) ∷ without_last d s.entries }
-cache_after s (fills k p o) _ = landed k s
-cache_after s (abandons k p) _ = landed k s
+cache_after s (fills k p o) (stored d) = record (without_flight k s) { entries = (k, o) ∷ without_last d s.entries }
+cache_after s (fills k p o) _ = without_flight k s
+cache_after s (abandons k p) _ = without_flight k s

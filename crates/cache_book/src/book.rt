@@ -1,12 +1,12 @@
-ghost use Rattle.std.specs.Prelude.{◌≡◌, ◌<◌, ◌≤◌, ◌++◌, ◌∷◌, [], true, length, take, Some, None, IfOk, OnOk, OnErr, IsTrue, ◌↔◌};
+ghost use Rattle.std.specs.Prelude.{◌≡◌, ◌<◌, ◌≤◌, ◌+◌, ◌++◌, ◌∷◌, [], true, length, take, Some, None, IfOk, OnOk, OnErr, IsTrue, ◌↔◌};
 ghost use Rattle.std.specs.Map.{lookup};
 ghost use Rattle.rx_value.specs.Value.{key_eq};
 ghost use Rattle.rx_value.specs.Weight.{entry_weight};
-ghost use Rattle.cache_book.specs.Machine.{CacheState, CacheCall, claims, fills, abandons, abandoned, empty_cache, owner_in_flight, cache_after, IsAllowed, fits, without_last};
-ghost use Rattle.cache_book.specs.Answers.{Answers, IsSound, AreInRange, IsLeastFit, Stores, reply_of_claim, reply_of_fill};
+ghost use Rattle.cache_book.specs.Machine.{CacheState, CacheCall, claims, fills, abandons, abandoned, empty_cache, owner_in_flight, cache_after, IsAllowed, are_within, without_last};
+ghost use Rattle.cache_book.specs.Answers.{AnswersCall, IsSound, AreInRange, IsLeastFit, Stores, reply_of_claim, reply_of_fill};
 
 use crate::answer::{BookClaim, Filled};
-use crate::limits::CacheLimits;
+use crate::limits::{BYTE_LIMIT, CacheLimits, ENTRY_LIMIT};
 use crate::shelf::Shelf;
 use indexmap::IndexMap;
 use rx_value::{Key, Memory, Outcome};
@@ -23,14 +23,15 @@ pub struct Book {
 
 impl Model for Book {
     ghost use Rattle.std.specs.Prelude.{◌≡◌, true};
-    ghost use Rattle.cache_book.specs.Machine.{CacheState, fits};
+    ghost use Rattle.cache_book.specs.Machine.{CacheState, are_within};
     ghost use Rattle.cache_book.specs.Answers.{AreInRange, AreApart};
 
     ghost Value = { CacheState };
 
     ghost view = { λ b. record { limits = b.limits; entries = b.shelf; in_flight = b.in_flight.entries } };
 
-    ghost invariant = { λ b. AreInRange b.limits × (fits b.limits b.shelf ≡ true) × AreApart b.in_flight.entries b.shelf };
+    ghost invariant = { λ b. AreInRange b.limits × (are_within b.limits b.shelf ≡ true)
+        × AreApart b.in_flight.entries b.shelf };
 }
 
 /// Puts a key that is not in flight there. Without memory nothing changes.
@@ -53,8 +54,8 @@ fn take_off(
 /// Drops entries from the back until the rest are within the limits, and tells how many.
 fn evict(shelf: &mut Shelf, limits: &CacheLimits) -> usize
     requires some { 0 < length shelf.old }
-    requires small { length shelf.old ≤ 20001 }
-    requires first { fits limits.now (take 1 shelf.old) ≡ true }
+    requires small { length shelf.old ≤ ENTRY_LIMIT + 1 }
+    requires first { are_within limits.now (take 1 shelf.old) ≡ true }
     ensures least { IsLeastFit limits.now shelf.old result }
     ensures after { shelf.new ≡ without_last result shelf.old }
 {
@@ -69,7 +70,7 @@ fn evict(shelf: &mut Shelf, limits: &CacheLimits) -> usize
 /// Keeps an outcome that is light enough under a key that has none.
 fn store(alloc: Global, shelf: &mut Shelf, limits: &CacheLimits, key: Key, got: &Outcome) -> Filled
     requires in_range { AreInRange limits.now }
-    requires within { fits limits.now shelf.old ≡ true }
+    requires within { are_within limits.now shelf.old ≡ true }
     requires new { lookup (key_eq key) shelf.old ≡ None }
     requires light { entry_weight key got.now ≤ limits.now.bytes }
     ensures { Stores limits.now (key, got.now) shelf.old result shelf.new }
@@ -87,8 +88,8 @@ impl Book {
     /// An empty cache that keeps at most this many entries, and entries of at most this weight
     /// together.
     pub fn new(alloc: Global, entries: usize, bytes: u64) -> Result<Book, Memory>
-        requires entries_in_range { (0 < entries) × (entries ≤ 20000) }
-        requires bytes_in_range { (0 < bytes) × (bytes ≤ 1000000000) }
+        requires entries_in_range { (0 < entries) × (entries ≤ ENTRY_LIMIT) }
+        requires bytes_in_range { (0 < bytes) × (bytes ≤ BYTE_LIMIT) }
         ensures { IfOk result (λ b. b ≡ empty_cache (record { entries = entries; bytes = bytes })) }
     {
         Ok(Book {
@@ -120,7 +121,7 @@ impl Book {
     /// Asks for the outcome of a key. Where it is neither kept nor in flight, the key goes in flight
     /// with this owner, which is to fill or to abandon it.
     pub fn claim(&mut self, alloc: Global, key: &Key, owner: u64) -> BookClaim
-        ensures { Answers self.old (claims key.now owner) (reply_of_claim result) self.new }
+        ensures { AnswersCall self.old (claims key.now owner) (reply_of_claim result) self.new }
     {
         match self.shelf.hit(alloc, key) {
             Err(Memory) => BookClaim::Memory,
@@ -139,7 +140,7 @@ impl Book {
     /// outcome goes in front of the entries, and as many go from the back as the limits ask for.
     pub fn fill(&mut self, alloc: Global, key: &Key, owner: u64, got: &Outcome) -> Filled
         requires { IsAllowed self.old (fills key.now owner got.now) }
-        ensures { Answers self.old (fills key.now owner got.now) (Some (reply_of_fill result)) self.new }
+        ensures { AnswersCall self.old (fills key.now owner got.now) (Some (reply_of_fill result)) self.new }
     {
         let Some((key, _)) = self.in_flight.shift_remove_entry(key) else {
             unreachable!()

@@ -9,9 +9,7 @@ mod answer;
 mod book;
 mod limits;
 mod shelf;
-#[cfg(test)]
-mod tests;
 
 pub use answer::{BookClaim, Filled};
 pub use book::Book;
-pub use limits::CacheLimits;
+pub use limits::{BYTE_LIMIT, CacheLimits, ENTRY_LIMIT};

@@ -1,9 +1,9 @@
-ghost use Rattle.std.specs.Prelude.{◌≡◌, ◌∷◌, [], ◌+◌, ◌-◌, ◌^◌, ◌<◌, length, take, Some, None, IfOk, IfSome, OnOk, OnErr, MatchOption};
+ghost use Rattle.std.specs.Prelude.{◌≡◌, ◌∷◌, [], ◌+◌, ◌-◌, ◌^◌, ◌<◌, length, take, Some, None, IfOk, IfSome, OnOk, OnErr, MatchOption, true};
 ghost use Rattle.std.specs.List.{IsDistinct};
 ghost use Rattle.std.specs.Map.{lookup, keys_of};
 ghost use Rattle.rx_value.specs.Value.{key_eq};
 ghost use Rattle.rx_value.specs.Weight.{entry_weight};
-ghost use Rattle.cache_book.specs.Machine.{total_weight, fits, used, without_last};
+ghost use Rattle.cache_book.specs.Machine.{total_weight, are_within, entries_after_use, without_last};
 
 use crate::limits::CacheLimits;
 use lru::LruCache;
@@ -67,7 +67,9 @@ impl Shelf {
     /// changes.
     pub fn hit(&mut self, alloc: Global, key: &Key) -> Result<Option<Outcome>, Memory>
         ensures found { IfOk result (λ o. o ≡ lookup (key_eq key.now) self.old) }
-        ensures ok { OnOk result (MatchOption (lookup (key_eq key.now) self.old) (self.new ≡ self.old) (λ o. self.new ≡ used key.now o self.old)) }
+        ensures ok { OnOk result
+            (MatchOption (lookup (key_eq key.now) self.old) (self.new ≡ self.old)
+            (λ o. self.new ≡ entries_after_use key.now o self.old)) }
         ensures err { OnErr result (self.new ≡ self.old) }
     {
         let outcome = copied(alloc, &self.kept, key)?;
@@ -114,7 +116,8 @@ impl Shelf {
 
     /// Whether all entries are within the limits.
     pub fn is_within(&self, limits: &CacheLimits) -> bool
-        ensures within { result ≡ fits limits.now self.now }
+        ensures within { result ≡ are_within limits.now self.now }
+        ensures empty { self.now ≡ [] → result ≡ true }
         ensures small { length self.now < 2 ^ 63 }
     {
         self.len() <= limits.entries && self.weight <= limits.bytes

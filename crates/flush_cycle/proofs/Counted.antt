@@ -6,7 +6,7 @@ use Rattle.app_tree.specs.declared.item.Item.{Item}
 use Rattle.app_tree.specs.Tree.{Node, input, value, task, reactive, event, text, plot, observe, on}
 use Rattle.app_tree.specs.View.{node_of}
 use Rattle.app_tree.specs.Numbering.{is_input, is_value, is_task, is_expression, is_output, is_observer, is_reader, declared_sources, output_count}
-use Rattle.flush_cycle.specs.Targets.{declared_count, outputs_before}
+use Rattle.flush_cycle.specs.inner.Targets.{declared_count, outputs_before}
 
 pub record Counted (is : Node → Bool) (items : List Item) (count at : ℕ) : Type 0 where
   pub rest : count + length (filter is (map node_of (drop at items))) ≡ length (filter is (map node_of items))

@@ -14,17 +14,17 @@ use Rattle.app_tree.specs.Fresh.{IsolatedOutcomes, kept_sites, answer_to, known_
 use Rattle.shiny_json.specs.declared.batch.BatchOutput.{BatchOutput}
 use Rattle.session_model.specs.declared.state.ReaderState.{ReaderState}
 use Rattle.session_model.specs.State.{SessionState, first_reader, isolated_of, has_run, reader_state, with_sources}
-use Rattle.session_model.specs.Run.{ReaderRun, at_beginning, forgotten, read_node, finished, visit_expression, run_reader}
-use Rattle.session_model.specs.Flush.{Waiting, Run, RunResult, FlushEnd, done, budget_spent, Flushed, output_made, is_observer_at, make_by, make_run, failure_by, failure_of, no_runs, and_then, unless_failed, after_run, flush_step, end_without_budget, flush_within, flush, waiting_from, next_waiting}
+use Rattle.session_model.specs.Run.{ReaderRun, reader_as_run_begins, state_as_run_begins, read_node, finished_run, visit_expression, run_reader}
+use Rattle.session_model.specs.Flush.{Waiting, Run, RunResult, FlushEnd, done, budget_spent, FlushResult, output_result, is_observer_at, make_by, make_run, failure_by, failure_of, no_runs, with_first_run, go_on_unless_failed, after_run, flush_step, end_without_budget, flush_within, flush, waiting_from, next_waiting}
 use Rattle.session_model.specs.Texts.{run_texts_of, output_of_run}
 use Rattle.flush_cycle.specs.State.{state_of}
-use Rattle.flush_cycle.specs.Passed.{IsPassed, WaitsAt, waits_at, IsShown, AreShown, Passes, end_of, ran_reader, shown_output, shown_outcome}
+use Rattle.flush_cycle.specs.inner.Passed.{IsPassed, WaitsAt, waits_at, IsShown, AreShown, Passes, end_of, ran_reader, shown_output, shown_outcome}
 use Rattle.flush_cycle.specs.Built.{plain_shown, first_unbuilt}
 use Rattle.flush_cycle.proofs.Building.{no_priority_behind}
 use Rattle.flush_cycle.proofs.Passing.{split_at, waiting-found, none_before}
 
 -- a flush behind these runs, which ran so many bodies
-abbrev pub behind : List Run → ℕ → Flushed → Flushed
+abbrev pub behind : List Run → ℕ → FlushResult → FlushResult
 behind runs bodies rest = record { state = rest.state; runs = runs ++ rest.runs; bodies = bodies + rest.bodies; end = rest.end }
 
 pub record Going (app : Shape) (values : List SourceValue) (start readers : List ReaderState) (left : ℕ) (outputs : List BatchOutput) (place number : ℕ) : Type 0 where
@@ -35,11 +35,11 @@ pub record Going (app : Shape) (values : List SourceValue) (start readers : List
   pub rest : behind runs bodies (flush_within app left (state_of values readers)) ≡ flush app (state_of values start)
 
 -- behind no run a flush is as it is
-behind_nothing : (rest : Flushed) → behind [] 0 rest ≡ rest
+behind_nothing : (rest : FlushResult) → behind [] 0 rest ≡ rest
 behind_nothing rest = λ i. record { state = rest.state; runs = rest.runs; bodies = zero-add rest.bodies i; end = rest.end }
 
 -- a run in front of a flush that stands behind others is one more of these
-behind_more : (runs : List Run) (bodies : ℕ) (first : RunResult) (rest : Flushed) → behind runs bodies (and_then first rest) ≡ behind (runs ++ first.run ∷ []) (bodies + first.bodies) rest
+behind_more : (runs : List Run) (bodies : ℕ) (first : RunResult) (rest : FlushResult) → behind runs bodies (with_first_run first rest) ≡ behind (runs ++ first.run ∷ []) (bodies + first.bodies) rest
 behind_more runs bodies first rest =
     let all : runs ++ first.run ∷ rest.runs ≡ (runs ++ first.run ∷ []) ++ rest.runs = sym (append_assoc runs (first.run ∷ []) rest.runs) in
     let count : bodies + (first.bodies + rest.bodies) ≡ bodies + first.bodies + rest.bodies = omega arith in
@@ -101,23 +101,23 @@ ran_plainly app n state = record {
   bodies = 1;
 }
 
-ran_is : (app : Shape) (n : ℕ) (state : SessionState) (name : List ℕ) (s : ℕ) → reader app n ≡ Some (text name (plain_shown s)) → run_reader app n state ≡ ran_plainly app n (forgotten n state)
-ran_is app n state name s e = ap (λ i. finished app n (read_node app (visit_expression app) n (not (has_run (reader_state state n))) i (forgotten n state))) e
+ran_is : (app : Shape) (n : ℕ) (state : SessionState) (name : List ℕ) (s : ℕ) → reader app n ≡ Some (text name (plain_shown s)) → run_reader app n state ≡ ran_plainly app n (state_as_run_begins n state)
+ran_is app n state name s e = ap (λ i. finished_run app n (read_node app (visit_expression app) n (not (has_run (reader_state state n))) i (state_as_run_begins n state))) e
 
 -- the state after a run of reader n, whose outcome is its last
 state_is : (app : Shape) (values : List SourceValue) (readers : List ReaderState) (n : ℕ) (name : List ℕ) (s : ℕ) → reader app n ≡ Some (text name (plain_shown s)) → n < length readers
-    → (output_made n (ran_plainly app n (forgotten n (state_of values readers)))).state ≡ state_of values (slice_set readers n (ran_reader s values (unwrap_or (slice_get readers n) first_reader)))
+    → (output_result n (ran_plainly app n (state_as_run_begins n (state_of values readers)))).state ≡ state_of values (slice_set readers n (ran_reader s values (unwrap_or (slice_get readers n) first_reader)))
 state_is app values readers n name s e lt =
-    let isolated = isolated_of (forgotten n (state_of values readers)) in
+    let isolated = isolated_of (state_as_run_begins n (state_of values readers)) in
     let seen = fresh_evaluation app values isolated n in
     let depend : ReaderState → ReaderState = λ r. record r { dependencies = Some (record { sources = sources_of app values isolated seen.outside; changed = false }) } in
     let keep : ReaderState → ReaderState = λ r. record r { last = Some seen.outcome } in
-    ap (state_of values) (update-thrice n first_reader at_beginning depend keep readers lt
+    ap (state_of values) (update-thrice n first_reader reader_as_run_begins depend keep readers lt
     ∙ ap (λ (e' : Evaluation). slice_set readers n (reader_after (sources_of app values isolated e'.outside) e'.outcome (unwrap_or (slice_get readers n) first_reader))) (evaluation_is app values isolated n name s e))
 
 outcome_is : (app : Shape) (values : List SourceValue) (readers : List ReaderState) (n : ℕ) (name : List ℕ) (s : ℕ) → reader app n ≡ Some (text name (plain_shown s))
-    → (ran_plainly app n (forgotten n (state_of values readers))).outcome ≡ shown_outcome s values
-outcome_is app values readers n name s e = ap (λ (seen : Evaluation). seen.outcome) (evaluation_is app values (isolated_of (forgotten n (state_of values readers))) n name s e)
+    → (ran_plainly app n (state_as_run_begins n (state_of values readers))).outcome ≡ shown_outcome s values
+outcome_is app values readers n name s e = ap (λ (seen : Evaluation). seen.outcome) (evaluation_is app values (isolated_of (state_as_run_begins n (state_of values readers))) n name s e)
 
 abbrev run_of : ℕ → Outcome → Run
 run_of n outcome = record { number = n; outcome = outcome; messages = [] }
@@ -130,7 +130,7 @@ made_is app values readers n name s e lt =
     let state = state_of values readers in
     let after = state_is app values readers n name s e lt in
     let outcome = outcome_is app values readers n name s e in
-    ap (λ i. make_by (is_observer_at i) app n state) e ∙ ap (output_made n) (ran_is app n state name s e)
+    ap (λ i. make_by (is_observer_at i) app n state) e ∙ ap (output_result n) (ran_is app n state name s e)
     ∙ (λ i. record { state = after i; bodies = 1; run = run_of n (outcome i) })
 
 no_failure : (app : Shape) (n : ℕ) (outcome : Outcome) (name : List ℕ) (s : ℕ) → reader app n ≡ Some (text name (plain_shown s)) → failure_of app (run_of n outcome) ≡ None
@@ -203,19 +203,19 @@ shown_more app (r ∷ runs) (p ∷ outputs) run o h one = (h.0, shown_more app r
 is_shown : (app : Shape) (n : ℕ) (name : List ℕ) (s : ℕ) (values : List SourceValue) → reader app n ≡ Some (text name (plain_shown s)) → IsShown app (run_of n (shown_outcome s values)) (shown_output name s values)
 is_shown app n name s values e = record {
   texts = ap run_texts_of e;
-  told = ap (λ i. output_of_run i (run_of n (shown_outcome s values))) e;
+  value = ap (λ i. output_of_run i (run_of n (shown_outcome s values))) e;
   silent = refl;
 }
 
 -- the run of the next that waits stands in front of what is left
 flush_more : (app : Shape) (left n : ℕ) (state : SessionState) (made : RunResult) → 0 < left → next_waiting app state ≡ Some n → make_run app n state ≡ made → failure_of app made.run ≡ None
-    → flush_within app left state ≡ and_then made (flush_within app (left - 1) made.state)
+    → flush_within app left state ≡ with_first_run made (flush_within app (left - 1) made.state)
 flush_more app zero n state made h e m none = absurd (omega (arith, h))
 flush_more app (suc left) n state made h e m none =
     let same : suc left - 1 ≡ left = omega arith in
     ap (flush_step app (flush_within app left) state) e ∙ ap (after_run app (flush_within app left)) m
-    ∙ ap (λ why. and_then made (unless_failed why (flush_within app left) made.state)) none
-    ∙ sym (ap (λ k. and_then made (flush_within app k made.state)) same)
+    ∙ ap (λ why. with_first_run made (go_on_unless_failed why (flush_within app left) made.state)) none
+    ∙ sym (ap (λ k. with_first_run made (flush_within app k made.state)) same)
 
 -- the state of the reader at the place doesn't matter to those before it
 passed_with : (items : List Node) (readers : List ReaderState) (p n : ℕ) (r : ReaderState) → IsPassed items readers p n → IsPassed items (slice_set readers n r) p n
@@ -235,7 +235,7 @@ one_more app values start readers left outputs place number name s built g some 
     let at = reader_is app readers p n name s passed waits in
     let run = run_of n (shown_outcome s values) in
     let made : RunResult = record { state = state_of values (slice_set readers n after); bodies = 1; run = run } in
-    let one : flush_within app left state ≡ and_then made (flush_within app (left - 1) made.state) =
+    let one : flush_within app left state ≡ with_first_run made (flush_within app (left - 1) made.state) =
     flush_more app left n state made some (next_is app values readers p n name s built passed waits) (made_is app values readers n name s at (waits_within readers n waits.waits))
     (no_failure app n (shown_outcome s values) name s at) in
     record {

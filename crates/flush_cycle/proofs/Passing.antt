@@ -10,7 +10,7 @@ use Rattle.session_model.specs.declared.state.ReaderState.{ReaderState}
 use Rattle.app_tree.specs.Trace.{Every}
 use Rattle.session_model.specs.Flush.{Waiting, first_of, and_later, priority_of, is_waiting, waiting_from}
 use Rattle.flush_cycle.specs.Built.{plain_shown}
-use Rattle.flush_cycle.specs.Passed.{waits_at, IsPassed}
+use Rattle.flush_cycle.specs.inner.Passed.{waits_at, IsPassed}
 use Rattle.flush_cycle.proofs.Building.{IsOfNoPriority}
 
 -- ---- lists

@@ -11,7 +11,7 @@ use Rattle.app_tree.specs.Tree.{Node, input, value, task, reactive, event, text,
 use Rattle.app_tree.specs.Numbering.{is_output, declared_value, declared_sources, unknown_sizes, starting_values}
 use Rattle.app_tree.specs.Current.{value_at}
 use Rattle.session_model.specs.State.{SessionState}
-use Rattle.session_model.specs.Change.{change, changed_to, thawed, thaw_from, thaw}
+use Rattle.session_model.specs.Change.{change, with_source_value, thawed_value, thaw_from, thaw}
 use Rattle.session_model.specs.declared.state.ReaderState.{ReaderState}
 use Rattle.flush_cycle.specs.State.{state_of, IsThawed, AreThawed}
 
@@ -19,7 +19,7 @@ use Rattle.flush_cycle.specs.State.{state_of, IsThawed, AreThawed}
 
 -- a source that is set to the value that it has stays as it is
 change_same : (state : SessionState) (s : ℕ) (x : SourceValue) → value_at state.values s ≡ x → change s x state ≡ state
-change_same state s x h = ap (λ b. cond b state (changed_to s x state)) (ap (λ v. source_eq v x) h ∙ source_eq-itself x)
+change_same state s x h = ap (λ b. cond b state (with_source_value s x state)) (ap (λ v. source_eq v x) h ∙ source_eq-itself x)
 
 abbrev IsIn : SessionState → ℕ → List SourceValue → Type 0
 IsIn state s xs = (j : ℕ) (x : SourceValue) → slice_get xs j ≡ Some x → value_at state.values (s + j) ≡ x
@@ -27,8 +27,8 @@ IsIn state s xs = (j : ℕ) (x : SourceValue) → slice_get xs j ≡ Some x → 
 thaw_nothing : (xs : List SourceValue) (s : ℕ) (state : SessionState) → AreThawed xs → IsIn state s xs → thaw_from s xs state ≡ state
 thaw_nothing [] s state h at = refl
 thaw_nothing (x ∷ xs) s state h at =
-    let here : value_at state.values s ≡ thawed x = ap (value_at state.values) (let e : s ≡ s + 0 = omega arith in e) ∙ at 0 x refl ∙ sym h.0 in
-    ap (thaw_from (suc s) xs) (change_same state s (thawed x) here)
+    let here : value_at state.values s ≡ thawed_value x = ap (value_at state.values) (let e : s ≡ s + 0 = omega arith in e) ∙ at 0 x refl ∙ sym h.0 in
+    ap (thaw_from (suc s) xs) (change_same state s (thawed_value x) here)
     ∙ thaw_nothing xs (suc s) state h.1 (λ j y p. ap (value_at state.values) (let e : suc s + j ≡ s + suc j = omega arith in e) ∙ at (suc j) y p)
 
 pub thaw_same : (state : SessionState) → AreThawed state.values → thaw state ≡ state
@@ -41,7 +41,7 @@ every_set [] s x h p = h
 every_set (y ∷ xs) zero x h p = (p, h.1)
 every_set (y ∷ xs) (suc s) x h p = (h.0, every_set xs s x h.1 p)
 
-change_thawed : (b : Bool) (s : ℕ) (x : SourceValue) (state : SessionState) → AreThawed state.values → IsThawed x → AreThawed (cond b state (changed_to s x state)).values
+change_thawed : (b : Bool) (s : ℕ) (x : SourceValue) (state : SessionState) → AreThawed state.values → IsThawed x → AreThawed (cond b state (with_source_value s x state)).values
 change_thawed true s x state h p = h
 change_thawed false s x state h p = every_set state.values s x h p
 

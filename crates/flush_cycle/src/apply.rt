@@ -4,7 +4,7 @@ ghost use Rattle.app_tree.specs.View.{shape_of};
 ghost use Rattle.session_model.specs.Change.{change};
 ghost use Rattle.session_model.specs.Apply.{is_shown_by, with_shown, apply_to, apply_pair, apply_pairs};
 ghost use Rattle.flush_cycle.specs.State.{state_of, AreThawed};
-ghost use Rattle.flush_cycle.specs.Targets.{target_is};
+ghost use Rattle.flush_cycle.specs.inner.Targets.{target_is};
 
 use crate::change::change;
 use crate::sizes::{height_source, width_source};
@@ -40,7 +40,8 @@ fn set_source(
     value: &Value,
 ) -> Result<(), Memory>
     requires thawed { AreThawed values.old.items }
-    ensures changed { OnOk result (state_of values.new.items readers.new.items ≡ change source (Plain value.now) (state_of values.old.items readers.old.items)) }
+    ensures changed { OnOk result (state_of values.new.items readers.new.items
+        ≡ change source (Plain value.now) (state_of values.old.items readers.old.items)) }
     ensures thawed { AreThawed values.new.items }
 {
     let value = SourceValue::Plain(value.copy(alloc)?);
@@ -57,7 +58,9 @@ fn apply_to(
     value: &Value,
 ) -> Result<(), Memory>
     requires thawed { AreThawed values.old.items }
-    ensures applied { OnOk result (state_of values.new.items readers.new.items ≡ apply_to (shape_of app.now) (Some (target_is target)) value.now (state_of values.old.items readers.old.items)) }
+    ensures applied { OnOk result (state_of values.new.items readers.new.items
+        ≡ apply_to (shape_of app.now) (Some (target_is target)) value.now
+        (state_of values.old.items readers.old.items)) }
     ensures thawed { AreThawed values.new.items }
 {
     match target {
@@ -83,7 +86,8 @@ fn apply_pair(
     pair: &Pair,
 ) -> Result<(), Memory>
     requires thawed { AreThawed values.old.items }
-    ensures applied { OnOk result (state_of values.new.items readers.new.items ≡ apply_pair (shape_of app.now) pair.now (state_of values.old.items readers.old.items)) }
+    ensures applied { OnOk result (state_of values.new.items readers.new.items
+        ≡ apply_pair (shape_of app.now) pair.now (state_of values.old.items readers.old.items)) }
     ensures thawed { AreThawed values.new.items }
 {
     match target_of(app.items().as_slice(), pair.name.as_str()) {
@@ -101,7 +105,8 @@ pub fn apply_pairs(
     pairs: &[Pair],
 ) -> Result<(), Memory>
     requires thawed { AreThawed values.old.items }
-    ensures applied { OnOk result (state_of values.new.items readers.new.items ≡ apply_pairs (shape_of app.now) pairs.now (state_of values.old.items readers.old.items)) }
+    ensures applied { OnOk result (state_of values.new.items readers.new.items
+        ≡ apply_pairs (shape_of app.now) pairs.now (state_of values.old.items readers.old.items)) }
     ensures thawed { AreThawed values.new.items }
 {
     for pair in pairs {

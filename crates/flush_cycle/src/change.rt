@@ -1,20 +1,21 @@
 ghost use Rattle.std.specs.Prelude.{◌≡◌, map};
 ghost use Rattle.rx_value.specs.Value.{source_eq};
 ghost use Rattle.app_tree.specs.Current.{value_at};
-ghost use Rattle.session_model.specs.Change.{reaches, marked, change};
+ghost use Rattle.session_model.specs.Change.{marked_reader, change};
 ghost use Rattle.flush_cycle.specs.State.{state_of};
+ghost use Rattle.app_tree.specs.Fresh.{is_among};
 
 use rx_value::{SourceValue, Value};
 use session_model::ReaderState;
 
 fn is_among(sources: &[u32], source: u128) -> bool
-    ensures { result ≡ reaches source sources.now }
+    ensures { result ≡ is_among source sources.now }
 {
     sources.iter().any(|reached| *reached as u128 == source)
 }
 
 fn mark(reader: &mut ReaderState, source: u128)
-    ensures { reader.new ≡ marked source reader.old }
+    ensures { reader.new ≡ marked_reader source reader.old }
 {
     if let Some(dependencies) = &mut reader.dependencies {
         if is_among(dependencies.sources.as_slice(), source) {
@@ -24,7 +25,7 @@ fn mark(reader: &mut ReaderState, source: u128)
 }
 
 fn mark_all(readers: &mut Vec<ReaderState>, source: u128)
-    ensures { readers.new.items ≡ map (marked source) readers.old.items }
+    ensures { readers.new.items ≡ map (marked_reader source) readers.old.items }
 {
     for reader in readers.iter_mut() {
         mark(reader, source);
@@ -49,7 +50,8 @@ pub fn change(
     source: u128,
     value: SourceValue,
 )
-    ensures { state_of values.new.items readers.new.items ≡ change source value (state_of values.old.items readers.old.items) }
+    ensures { state_of values.new.items readers.new.items
+        ≡ change source value (state_of values.old.items readers.old.items) }
 {
     if is_value(values.as_slice(), source, &value) {
         return;

@@ -1,15 +1,15 @@
 ghost use Rattle.std.specs.Prelude.{◌≡◌, IfOk};
 ghost use Rattle.app_tree.specs.View.{shape_of};
-ghost use Rattle.session_model.specs.Alone.{applied};
+ghost use Rattle.session_model.specs.Alone.{flush_with_pairs};
 ghost use Rattle.session_model.specs.Texts.{first_texts, later_texts};
 ghost use Rattle.flush_cycle.specs.State.{state_of, AreThawed};
 ghost use Rattle.flush_cycle.specs.Built.{IsBuilt};
-ghost use Rattle.flush_cycle.specs.Passed.{Passes};
-ghost use Rattle.flush_cycle.specs.Sent.{Sends};
+ghost use Rattle.flush_cycle.specs.inner.Passed.{Passes};
+ghost use Rattle.flush_cycle.specs.inner.PassTexts.{Sends};
 
 use crate::apply::apply_pairs;
 use crate::flushing::{Pass, flush};
-use crate::texts::{Sent, first_texts, later_texts};
+use crate::texts::{EventTexts, first_texts, later_texts};
 use app_tree::App;
 use rx_value::{Memory, RxText, SourceValue};
 use session_model::ReaderState;
@@ -25,7 +25,9 @@ fn apply_and_flush(
 ) -> Result<Pass, Memory>
     requires built { IsBuilt (shape_of app.now) }
     requires thawed { AreThawed values.old.items }
-    ensures passes { IfOk result (λ p. Passes (shape_of app.now) (applied (shape_of app.now) pairs.now (state_of values.old.items readers.old.items)) (state_of values.new.items readers.new.items) p.outputs p.spent) }
+    ensures passes { IfOk result (λ p. Passes (shape_of app.now)
+        (flush_with_pairs (shape_of app.now) pairs.now (state_of values.old.items readers.old.items))
+        (state_of values.new.items readers.new.items) p.outputs p.spent) }
     ensures thawed { AreThawed values.new.items }
 {
     apply_pairs(alloc, app, values, readers, pairs)?;
@@ -40,16 +42,18 @@ pub fn first_event(
     readers: &mut Vec<ReaderState>,
     label: &RxText,
     pairs: &[Pair],
-) -> Result<Sent, Memory>
+) -> Result<EventTexts, Memory>
     requires built { IsBuilt (shape_of app.now) }
     requires thawed { AreThawed values.old.items }
-    ensures sends { IfOk result (λ sent. let f = applied (shape_of app.now) pairs.now (state_of values.old.items readers.old.items) in Sends (first_texts (shape_of app.now) label.now f) f (state_of values.new.items readers.new.items) sent) }
+    ensures sends { IfOk result (λ sent.
+        let f = flush_with_pairs (shape_of app.now) pairs.now (state_of values.old.items readers.old.items) in
+        Sends (first_texts (shape_of app.now) label.now f) f (state_of values.new.items readers.new.items) sent) }
     ensures thawed { AreThawed values.new.items }
 {
     let pass = apply_and_flush(alloc, app, values, readers, pairs)?;
     let spent = pass.spent;
     let texts = first_texts(alloc, label, pass)?;
-    Ok(Sent { texts, spent })
+    Ok(EventTexts { texts, spent })
 }
 
 /// A later event, which sends nothing where nothing ran and the session goes on.
@@ -59,14 +63,16 @@ pub fn later_event(
     values: &mut Vec<SourceValue>,
     readers: &mut Vec<ReaderState>,
     pairs: &[Pair],
-) -> Result<Sent, Memory>
+) -> Result<EventTexts, Memory>
     requires built { IsBuilt (shape_of app.now) }
     requires thawed { AreThawed values.old.items }
-    ensures sends { IfOk result (λ sent. let f = applied (shape_of app.now) pairs.now (state_of values.old.items readers.old.items) in Sends (later_texts (shape_of app.now) f) f (state_of values.new.items readers.new.items) sent) }
+    ensures sends { IfOk result (λ sent.
+        let f = flush_with_pairs (shape_of app.now) pairs.now (state_of values.old.items readers.old.items) in
+        Sends (later_texts (shape_of app.now) f) f (state_of values.new.items readers.new.items) sent) }
     ensures thawed { AreThawed values.new.items }
 {
     let pass = apply_and_flush(alloc, app, values, readers, pairs)?;
     let spent = pass.spent;
     let texts = later_texts(alloc, pass)?;
-    Ok(Sent { texts, spent })
+    Ok(EventTexts { texts, spent })
 }

@@ -1,7 +1,7 @@
 ghost use Rattle.std.specs.Prelude.{◌≡◌, IfOk};
 ghost use Rattle.app_tree.specs.View.{shape_of};
 ghost use Rattle.session_model.specs.State.{first_state};
-ghost use Rattle.session_model.specs.Alone.{applied};
+ghost use Rattle.session_model.specs.Alone.{flush_with_pairs};
 ghost use Rattle.session_model.specs.Texts.{first_texts, later_texts};
 ghost use Rattle.flush_cycle.specs.Built.{IsBuilt};
 ghost use Rattle.flush_cycle.specs.Flushing.{FlushGives, flushed_of, stage_after};
@@ -10,7 +10,7 @@ use crate::event::{first_event, later_event};
 use crate::flushed::Flushed;
 use crate::stage::Stage;
 use crate::start::first_readers;
-use crate::texts::Sent;
+use crate::texts::EventTexts;
 use app_tree::App;
 use rx_source::starting_values;
 use rx_value::{Memory, RxText, SourceValue};
@@ -47,17 +47,17 @@ impl Model for Flusher {
     ghost view = { λ f. record { app = f.app.value; state = state_of f.values.items f.readers.items; stage = f.stage } };
 }
 
-fn flushed_of(sent: Result<Sent, Memory>) -> Flushed
+fn flushed_of(sent: Result<EventTexts, Memory>) -> Flushed
     ensures { result ≡ flushed_of sent }
 {
     match sent {
         Ok(
-            Sent {
+            EventTexts {
                 texts,
                 spent: false,
             },
         ) => Flushed::Done(texts),
-        Ok(Sent { texts, spent: true }) => Flushed::BudgetSpent(texts),
+        Ok(EventTexts { texts, spent: true }) => Flushed::BudgetSpent(texts),
         Err(Memory) => Flushed::Memory,
     }
 }
@@ -101,7 +101,9 @@ impl Flusher {
     /// Its texts are the first of the session with this label.
     pub fn init(&mut self, alloc: Global, label: &RxText, pairs: &ClientData) -> Flushed
         requires { self.old.stage ≡ Stage.New }
-        ensures flush { let app = shape_of self.old.app in let f = applied app pairs.now self.old.state in FlushGives (first_texts app label.now f) f self.new.state result }
+        ensures flush { let app = shape_of self.old.app in
+            let f = flush_with_pairs app pairs.now self.old.state in
+            FlushGives (first_texts app label.now f) f self.new.state result }
         ensures app { self.new.app ≡ self.old.app }
         ensures stage { self.new.stage ≡ stage_after result }
     {
@@ -121,7 +123,9 @@ impl Flusher {
     /// Applies an update: sets what its pairs say, in their order, and runs what waits.
     pub fn update(&mut self, alloc: Global, pairs: &ClientData) -> Flushed
         requires { self.old.stage ≡ Stage.Open }
-        ensures flush { let app = shape_of self.old.app in let f = applied app pairs.now self.old.state in FlushGives (later_texts app f) f self.new.state result }
+        ensures flush { let app = shape_of self.old.app in
+            let f = flush_with_pairs app pairs.now self.old.state in
+            FlushGives (later_texts app f) f self.new.state result }
         ensures app { self.new.app ≡ self.old.app }
         ensures stage { self.new.stage ≡ stage_after result }
     {

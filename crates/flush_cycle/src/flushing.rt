@@ -4,7 +4,7 @@ ghost use Rattle.session_model.specs.State.{first_reader};
 ghost use Rattle.session_model.specs.Flush.{flush};
 ghost use Rattle.flush_cycle.specs.State.{state_of};
 ghost use Rattle.flush_cycle.specs.Built.{IsBuilt};
-ghost use Rattle.flush_cycle.specs.Passed.{ran_reader, Passes, shown_output};
+ghost use Rattle.flush_cycle.specs.inner.Passed.{ran_reader, Passes, shown_output};
 
 use crate::running::run;
 use crate::waiting::{Waiting, next_waiting};
@@ -30,7 +30,9 @@ fn run_waiting(
     readers: &mut Vec<ReaderState>,
 ) -> Result<BatchOutput, Memory>
     requires { waiting.now.number < length readers.old.items }
-    ensures ran { OnOk result (readers.new.items ≡ slice_set readers.old.items waiting.now.number (ran_reader waiting.now.source values.now (unwrap_or (slice_get readers.old.items waiting.now.number) first_reader))) }
+    ensures ran { OnOk result (readers.new.items ≡ slice_set readers.old.items waiting.now.number
+        (ran_reader waiting.now.source values.now
+        (unwrap_or (slice_get readers.old.items waiting.now.number) first_reader))) }
     ensures output { IfOk result (λ o. o ≡ shown_output waiting.now.name.now waiting.now.source values.now) }
 {
     let reader = &mut readers[waiting.number];
@@ -51,7 +53,9 @@ pub fn flush(
     readers: &mut Vec<ReaderState>,
 ) -> Result<Pass, Memory>
     requires { IsBuilt (shape_of app.now) }
-    ensures { IfOk result (λ p. Passes (shape_of app.now) (flush (shape_of app.now) (state_of values.now readers.old.items)) (state_of values.now readers.new.items) p.outputs p.spent) }
+    ensures { IfOk result (λ p. Passes (shape_of app.now)
+        (flush (shape_of app.now) (state_of values.now readers.old.items))
+        (state_of values.now readers.new.items) p.outputs p.spent) }
 {
     let items = app.items().as_slice();
     let mut outputs = BatchOutputs::new(alloc);

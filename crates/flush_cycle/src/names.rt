@@ -2,9 +2,9 @@ ghost use Rattle.std.specs.Prelude.{◌≡◌, map};
 ghost use Rattle.std.specs.Option.{option_copied};
 ghost use Rattle.app_tree.specs.View.{node_of};
 ghost use Rattle.app_tree.specs.Numbering.{input_number, output_number};
-ghost use Rattle.session_model.specs.Apply.{after_front, before_end, output_told};
+ghost use Rattle.session_model.specs.Apply.{after_front, before_end, clientdata_output};
 ghost use Rattle.session_model.specs.TakenLines.{hidden_output};
-ghost use Rattle.flush_cycle.specs.Targets.{output_name};
+ghost use Rattle.flush_cycle.specs.inner.Targets.{output_name};
 
 use app_tree::Item;
 
@@ -76,8 +76,8 @@ fn output_name<'a>(end: &[u8], name: &'a [u8]) -> Option<&'a [u8]>
 }
 
 /// The reader number of the output NAME of which `.clientdata_output_NAME` and this end tell.
-pub fn output_told(items: &[Item], end: &[u8], name: &str) -> Option<usize>
-    ensures { result ≡ output_told end.now name.now (map node_of items.now) }
+pub fn clientdata_output(items: &[Item], end: &[u8], name: &str) -> Option<usize>
+    ensures { result ≡ clientdata_output end.now name.now (map node_of items.now) }
 {
     match output_name(end, name.as_bytes()) {
         Some(output) => output_number(items, output),
@@ -90,5 +90,5 @@ pub fn output_told(items: &[Item], end: &[u8], name: &str) -> Option<usize>
 pub fn hidden_output(items: &[Item], name: &str) -> Option<usize>
     ensures { result ≡ hidden_output name.now (map node_of items.now) }
 {
-    output_told(items, b"_hidden", name)
+    clientdata_output(items, b"_hidden", name)
 }

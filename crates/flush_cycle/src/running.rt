@@ -1,6 +1,6 @@
 ghost use Rattle.std.specs.Prelude.{◌≡◌, [], ◌∷◌, ◌++◌, IfOk, OnOk};
 ghost use Rattle.app_tree.specs.Current.{value_at, plain_outcome};
-ghost use Rattle.flush_cycle.specs.Passed.{shown_outcome, ran_reader};
+ghost use Rattle.flush_cycle.specs.inner.Passed.{shown_outcome, ran_reader};
 
 use rx_value::{Memory, Outcome, RxList, SourceValue, Value};
 use session_model::{Dependencies, ReaderState};

@@ -1,7 +1,7 @@
 ghost use Rattle.std.specs.Prelude.{◌≡◌, ◌≤◌, map, length};
 ghost use Rattle.app_tree.specs.View.{node_of, shape_of};
 ghost use Rattle.app_tree.specs.Numbering.{output_count, width_source, height_source};
-ghost use Rattle.flush_cycle.specs.Targets.{is_declared, declared_count, outputs_before};
+ghost use Rattle.flush_cycle.specs.inner.Targets.{is_declared, declared_count, outputs_before};
 
 use app_tree::{App, Item};
 

@@ -5,17 +5,14 @@ ghost use Rattle.serde_json.specs.View.{view, members_view};
 ghost use Rattle.app_tree.specs.View.{shape_of};
 ghost use Rattle.shiny_json.specs.Client.{is_colon};
 ghost use Rattle.session_model.specs.TakenLines.{is_whole, is_truth, is_taken_pair, are_taken_pairs, has_taken_data, is_taken_json, pairs_set, taken_pairs};
-ghost use Rattle.flush_cycle.specs.TakenJson.{has_two_members, taken_json_pairs};
+ghost use Rattle.flush_cycle.specs.inner.TakenJson.{has_two_members, taken_json_pairs};
 
 use crate::names::{hidden_output, input_number};
 use app_tree::App;
 use rx_value::{Memory, RxText};
 use serde_json::{Map, Value as Json};
-use shiny_json::{Client, ClientData, client_of};
+use shiny_json::{Client, ClientData, MESSAGE_LIMIT, client_of};
 use std::alloc::Global;
-
-/// The most bytes of a client message.
-const MESSAGE_LIMIT: usize = 65_536;
 
 fn is_whole(json: &Json) -> bool
     ensures { result ≡ is_whole (view json.now) }
@@ -62,7 +59,8 @@ fn are_taken_pairs(app: &App, first: bool, pairs: &Map<String, Json>) -> bool
 }
 
 fn has_taken_data(app: &App, first: bool, pairs: Option<&Map<String, Json>>) -> bool
-    ensures { result ≡ has_taken_data (shape_of app.now) first (option_map (λ m. members_view m.now.entries) pairs.entry) }
+    ensures { result ≡ has_taken_data (shape_of app.now) first
+        (option_map (λ m. members_view m.now.entries) pairs.entry) }
 {
     match pairs {
         Some(pairs) => are_taken_pairs(app, first, pairs),

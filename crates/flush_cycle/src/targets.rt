@@ -1,10 +1,10 @@
 ghost use Rattle.std.specs.Prelude.{◌≡◌, map, codes};
 ghost use Rattle.std.specs.Option.{option_map};
 ghost use Rattle.app_tree.specs.View.{node_of};
-ghost use Rattle.session_model.specs.Apply.{output_told, hidden, target_of};
-ghost use Rattle.flush_cycle.specs.Targets.{target_is, height_or_hidden, output_target};
+ghost use Rattle.session_model.specs.Apply.{clientdata_output, hidden, target_of};
+ghost use Rattle.flush_cycle.specs.inner.Targets.{target_is, height_or_hidden, output_target};
 
-use crate::names::{input_number, output_told};
+use crate::names::{clientdata_output, input_number};
 use app_tree::Item;
 
 /// What a name of a client message stands for.
@@ -20,9 +20,10 @@ pub enum Target {
 }
 
 fn hidden(items: &[Item], name: &str) -> Option<Target>
-    ensures { option_map target_is result ≡ option_map hidden (output_told (codes "_hidden") name.now (map node_of items.now)) }
+    ensures { option_map target_is result
+        ≡ option_map hidden (clientdata_output (codes "_hidden") name.now (map node_of items.now)) }
 {
-    match output_told(items, b"_hidden", name) {
+    match clientdata_output(items, b"_hidden", name) {
         Some(number) => Some(Target::Hidden(number)),
         None => None,
     }
@@ -31,7 +32,7 @@ fn hidden(items: &[Item], name: &str) -> Option<Target>
 fn height_or_hidden(items: &[Item], name: &str) -> Option<Target>
     ensures { option_map target_is result ≡ height_or_hidden name.now (map node_of items.now) }
 {
-    match output_told(items, b"_height", name) {
+    match clientdata_output(items, b"_height", name) {
         Some(number) => Some(Target::Height(number)),
         None => hidden(items, name),
     }
@@ -40,7 +41,7 @@ fn height_or_hidden(items: &[Item], name: &str) -> Option<Target>
 fn output_target(items: &[Item], name: &str) -> Option<Target>
     ensures { option_map target_is result ≡ output_target name.now (map node_of items.now) }
 {
-    match output_told(items, b"_width", name) {
+    match clientdata_output(items, b"_width", name) {
         Some(number) => Some(Target::Width(number)),
         None => height_or_hidden(items, name),
     }

@@ -1,6 +1,6 @@
 ghost use Rattle.std.specs.Prelude.{◌≡◌, ◌++◌, IfOk, OnOk};
 ghost use Rattle.session_model.specs.Texts.{output_texts};
-ghost use Rattle.flush_cycle.specs.Sent.{outputs_texts, closing_pass, pass_texts, first_pass, later_pass};
+ghost use Rattle.flush_cycle.specs.inner.PassTexts.{outputs_texts, closing_pass, pass_texts, first_pass, later_pass};
 
 use crate::flushing::Pass;
 use rx_value::{Memory, RxList, RxText};
@@ -15,7 +15,7 @@ pub type Texts = RxList<RxText>;
 
 /// What an event sends, and whether its flush spent the budget, which ends the session.
 #[derive(Debug, Drop)]
-pub struct Sent {
+pub struct EventTexts {
     pub texts: Texts,
     pub spent: bool,
 }

@@ -5,7 +5,7 @@ ghost use Rattle.session_model.specs.State.{is_alive};
 ghost use Rattle.session_model.specs.Flush.{waiting_from};
 ghost use Rattle.std.specs.Prelude.{filter};
 ghost use Rattle.flush_cycle.specs.Built.{first_unbuilt, input_of_output};
-ghost use Rattle.flush_cycle.specs.Passed.{waits_at, IsPassed, WaitsAt};
+ghost use Rattle.flush_cycle.specs.inner.Passed.{waits_at, IsPassed, WaitsAt};
 
 use crate::forms::shown_input;
 use app_tree::Item;
@@ -62,7 +62,8 @@ pub fn next_waiting<'a>(
     requires built { first_unbuilt (map node_of items.now) ≡ None }
     requires passed { IsPassed (map node_of items.now) readers.now place number }
     ensures passed { IfSome result (λ w. IsPassed (map node_of items.now) readers.now w.place w.number) }
-    ensures waits { IfSome result (λ w. WaitsAt (map node_of items.now) readers.now w.place w.number w.name.now w.source) }
+    ensures waits { IfSome result
+        (λ w. WaitsAt (map node_of items.now) readers.now w.place w.number w.name.now w.source) }
     ensures none { IfNone result (waiting_from 0 (filter is_reader (map node_of items.now)) readers.now ≡ None) }
 {
     let mut place = place;

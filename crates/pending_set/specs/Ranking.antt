@@ -21,7 +21,8 @@ pub record IsWhole (order : List ℕ) : Type 0 where
 pub record IsPrecedence (priorities : List ℤ) (order : List ℕ) : Type 0 where
   pub long : length order ≡ length priorities
   pub whole : IsWhole order
-  pub falls : (i j : ℕ) → i ≤ j → j < length order → comes_before priorities (slice_index order j) (slice_index order i) ≡ false
+  pub falls : (i j : ℕ) → i ≤ j → j < length order
+      → comes_before priorities (slice_index order j) (slice_index order i) ≡ false
 
 -- for the numbers in front of this place of the order, where they stand in it
 pub record AreRanked (order ranks : List ℕ) (place : ℕ) : Type 0 where

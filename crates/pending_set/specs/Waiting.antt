@@ -14,7 +14,8 @@ priority_of priorities n = slice_index_or priorities n (pos 0)
 -- higher priority first, and of equal priority the smaller number
 abbrev pub comes_before : List ℤ → ℕ → ℕ → Bool
 comes_before priorities m n =
-    int_lt (priority_of priorities n) (priority_of priorities m) || (int_eq (priority_of priorities m) (priority_of priorities n) && nat_lt m n)
+    int_lt (priority_of priorities n) (priority_of priorities m)
+    || (int_eq (priority_of priorities m) (priority_of priorities n) && nat_lt m n)
 
 abbrev pub waits_at : Waiting → ℕ → Bool
 waits_at w n = slice_index_or w.waits n false

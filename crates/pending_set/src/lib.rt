@@ -7,8 +7,6 @@
 
 mod order;
 mod pending;
-#[cfg(test)]
-mod tests;
 mod tree;
 
 pub use pending::Pending;

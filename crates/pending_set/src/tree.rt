@@ -28,7 +28,8 @@ impl Model for PlaceTree {
 
     ghost view = { λ t. record { width = t.width; nodes = t.nodes.items } };
 
-    ghost invariant = { λ t. (t.width ≡ 2 ^ t.height) × (t.width ≤ 2 ^ 33) × (length t.nodes.items ≡ t.width + t.width) × IsTree t.width t.nodes.items };
+    ghost invariant = { λ t. (t.width ≡ 2 ^ t.height) × (t.width ≤ 2 ^ 33) × (length t.nodes.items ≡ t.width + t.width)
+        × IsTree t.width t.nodes.items };
 }
 
 /// Sets or clears the nodes above a leaf as those below them ask for.

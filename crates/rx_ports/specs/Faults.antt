@@ -1,5 +1,5 @@
 -- Counts of faults, and the plan by which an object in memory fails.
-use Rattle.std.specs.Prelude.{ℕ, ◌+◌, ◌-◌, ◌^◌, ◌≤◌, ◌==◌, min, Bool, if◌then◌else◌, List, []}
+use Rattle.std.specs.Prelude.{ℕ, ◌+◌, ◌-◌, ◌^◌, ◌≤◌, ◌==◌, min, Bool, if◌then◌else◌, List, [], ◌++◌}
 use Rattle.std.specs.List.{list_any}
 
 -- one more, up to the largest number of 64 bits
@@ -23,6 +23,10 @@ no_faults = record { failing = []; calls = 0; faults = 0 }
 -- whether the next call is to fail
 abbrev pub next_fails : Plan → Bool
 next_fails plan = list_any (λ number. number == one_more plan.calls) plan.failing
+
+-- the plan by which these calls fail besides
+abbrev pub with_failing : List ℕ → Plan → Plan
+with_failing calls plan = record plan { failing = plan.failing ++ calls }
 
 -- the plan after a call, which failed or did not
 abbrev pub after_call : Plan → Bool → Plan

@@ -45,14 +45,14 @@ next_take s room =
     else taken.End
 
 -- the count of bytes that an answer gave
-abbrev pub given : Take → ℕ
-given (taken.Bytes count) = count
-given _ = 0
+abbrev pub given_count : Take → ℕ
+given_count (taken.Bytes count) = count
+given_count _ = 0
 
 -- the bytes given are no longer left, and the call is counted
 abbrev pub after_take : SourceState → Take → SourceState
 after_take s answer = record {
-  left = drop (given answer) s.left;
+  left = drop (given_count answer) s.left;
   plan = after_call s.plan (next_fails s.plan);
 }
 

@@ -1,5 +1,5 @@
 ghost use Rattle.std.specs.Prelude.{◌≡◌, ◌≤◌, ◌++◌, OnOk, OnErr};
-ghost use Rattle.rx_ports.specs.Faults.{no_faults, next_fails, after_call};
+ghost use Rattle.rx_ports.specs.Faults.{no_faults, next_fails, with_failing, after_call};
 
 use rx_value::Memory;
 use std::alloc::Global;
@@ -20,7 +20,11 @@ impl Model for FaultPlan {
 
     ghost Value = { Plan };
 
-    ghost view = { λ p. record { failing = option_map_or (λ numbers. numbers.items) p.failing []; calls = p.calls; faults = p.faults } };
+    ghost view = { λ p. record {
+      failing = option_map_or (λ numbers. numbers.items) p.failing [];
+      calls = p.calls;
+      faults = p.faults;
+    } };
 }
 
 impl FaultPlan {
@@ -36,7 +40,7 @@ impl FaultPlan {
 
     /// Makes more calls fail. Without memory the plan stays.
     pub(crate) fn fail(&mut self, alloc: Global, calls: &[u64]) -> Result<(), Memory>
-        ensures ok { OnOk result (self.new ≡ record self.old { failing = self.old.failing ++ calls.now }) }
+        ensures ok { OnOk result (self.new ≡ with_failing calls.now self.old) }
         ensures err { OnErr result (self.new ≡ self.old) }
     {
         let mut failing = match &self.failing {

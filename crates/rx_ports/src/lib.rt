@@ -24,6 +24,3 @@ pub use mem_sink::MemSink;
 pub use mem_source::MemSource;
 pub use sink::{Put, Sink};
 pub use source::{Source, Take};
-
-#[cfg(test)]
-mod tests;

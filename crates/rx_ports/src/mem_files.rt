@@ -1,5 +1,5 @@
 ghost use Rattle.std.specs.Prelude.{◌≡◌, ℕ, ◌≤◌, ◌+◌, [], ◌++◌, find, position, take, bytes_eq, OnOk, OnErr, Some, option_copied};
-ghost use Rattle.rx_ports.specs.Faults.{no_faults, next_fails};
+ghost use Rattle.rx_ports.specs.Faults.{no_faults, with_failing, next_fails};
 ghost use Rattle.rx_ports.specs.Files.{ReadGives, ReadFaults};
 ghost use Rattle.rx_ports.specs.MemoryForms.{with_file, is_failed_read, after_read};
 
@@ -75,7 +75,10 @@ impl MemFiles {
 
     /// Adds a file, in the place of the one of that name if there is one. Without memory all stays.
     pub fn add(&mut self, alloc: Global, name: &str, bytes: &[u8]) -> Result<(), Memory>
-        ensures ok { OnOk result (self.new ≡ record self.old { files = with_file self.old.files (record { name = name.now; content = bytes.now }) }) }
+        ensures ok { OnOk result
+            (self.new ≡ record self.old {
+              files = with_file self.old.files (record { name = name.now; content = bytes.now });
+            }) }
         ensures err { OnErr result (self.new ≡ self.old) }
     {
         let file = NamedFile {
@@ -88,7 +91,7 @@ impl MemFiles {
     /// Makes the calls of `read` with these numbers fail, counted from 1 and over the whole life of
     /// the object, besides those named before. Without memory all stays.
     pub fn fail_read(&mut self, alloc: Global, calls: &[u64]) -> Result<(), Memory>
-        ensures ok { OnOk result (self.new ≡ record self.old { plan = record self.old.plan { failing = self.old.plan.failing ++ calls.now } }) }
+        ensures ok { OnOk result (self.new ≡ record self.old { plan = with_failing calls.now self.old.plan }) }
         ensures err { OnErr result (self.new ≡ self.old) }
     {
         self.plan.fail(alloc, calls)

@@ -1,5 +1,5 @@
 ghost use Rattle.std.specs.Prelude.{◌≡◌, ℕ, ◌≤◌, ◌+◌, min, take, [], ◌++◌, length, vec_len, vec_capacity, IfOk, OnOk, OnErr, Some};
-ghost use Rattle.rx_ports.specs.Faults.{no_faults};
+ghost use Rattle.rx_ports.specs.Faults.{no_faults, with_failing};
 ghost use Rattle.rx_ports.specs.Sink.{PutGives, PutFaults};
 ghost use Rattle.rx_ports.specs.MemoryForms.{is_failed_put, next_put_fails, after_put};
 
@@ -64,7 +64,7 @@ impl MemSink {
     /// Makes the calls of `put` with these numbers fail, counted from 1 and over the whole life of
     /// the object, besides those named before; such a call puts nothing. Without memory all stays.
     pub fn fail_put(&mut self, alloc: Global, calls: &[u64]) -> Result<(), Memory>
-        ensures ok { OnOk result (self.new ≡ record self.old { plan = record self.old.plan { failing = self.old.plan.failing ++ calls.now } }) }
+        ensures ok { OnOk result (self.new ≡ record self.old { plan = with_failing calls.now self.old.plan }) }
         ensures err { OnErr result (self.new ≡ self.old) }
     {
         self.plan.fail(alloc, calls)

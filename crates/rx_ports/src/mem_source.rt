@@ -1,5 +1,5 @@
 ghost use Rattle.std.specs.Prelude.{◌≡◌, ℕ, ◌+◌, ◌^◌, ◌≤◌, ◌<◌, ◌++◌, min, take, drop, length, OnOk, OnErr, Some};
-ghost use Rattle.rx_ports.specs.Faults.{no_faults};
+ghost use Rattle.rx_ports.specs.Faults.{no_faults, with_failing};
 ghost use Rattle.rx_ports.specs.Source.{TakeGives, TakeFaults};
 ghost use Rattle.rx_ports.specs.MemoryForms.{next_take, after_take};
 
@@ -62,7 +62,7 @@ impl MemSource {
     /// Makes the calls of `take` with these numbers fail, counted from 1 and over the whole life of
     /// the object, besides those named before. Without memory all stays.
     pub fn fail_take(&mut self, alloc: Global, calls: &[u64]) -> Result<(), Memory>
-        ensures ok { OnOk result (self.new ≡ record self.old { plan = record self.old.plan { failing = self.old.plan.failing ++ calls.now } }) }
+        ensures ok { OnOk result (self.new ≡ record self.old { plan = with_failing calls.now self.old.plan }) }
         ensures err { OnErr result (self.new ≡ self.old) }
     {
         self.plan.fail(alloc, calls)

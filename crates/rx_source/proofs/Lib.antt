@@ -1,4 +1,2 @@
-pub mod Passed
-pub mod Sizes
-pub mod Samples
+pub mod StartingOrder
 pub mod SameValues

@@ -1,5 +1,2 @@
-pub mod Sourced
-pub mod Sorts
+pub mod NumberedValues
 pub mod Changing
-pub mod Laws
-pub mod Sample

@@ -58,15 +58,14 @@ fn result_outcome(alloc: Global, value: &SourceValue) -> Result<Outcome, Memory>
     }
 }
 
-/// What a read of the source at this place is answered, which is no task. Beyond the sources it is
+/// What a read of the source of this number is answered, which is no task. Beyond the sources it is
 /// NULL.
-pub fn plain_at(alloc: Global, values: &[SourceValue], place: u128) -> Result<Outcome, Memory>
-    ensures { IfOk result (λ outcome. outcome ≡ plain_outcome (value_at values.now place)) }
+pub fn plain_at(alloc: Global, values: &[SourceValue], source: u32) -> Result<Outcome, Memory>
+    ensures { IfOk result (λ outcome. outcome ≡ plain_outcome (value_at values.now source)) }
 {
-    if place < values.len() as u128 {
-        plain_outcome(alloc, &values[place as usize])
-    } else {
-        Ok(Outcome::Val(Value::Null))
+    match values.get(source as usize) {
+        Some(value) => plain_outcome(alloc, value),
+        None => Ok(Outcome::Val(Value::Null)),
     }
 }
 

@@ -5,12 +5,8 @@
 #![tactic(auto)]
 
 mod answering;
-mod laws;
 mod sources;
 mod starting;
-#[cfg(test)]
-mod tests;
 
-pub use laws::answers_as_told;
 pub use sources::{Change, Sources};
 pub use starting::starting_values;

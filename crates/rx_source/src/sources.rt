@@ -1,14 +1,13 @@
 ghost use Rattle.std.specs.Prelude.{◌≡◌, ◌≢◌, ◌<◌, ◌↔◌, length, Some, true, false, slice_get, slice_set, IfOk};
 ghost use Rattle.rx_value.specs.Value.{source_eq};
 ghost use Rattle.app_tree.specs.View.{shape_of};
-ghost use Rattle.app_tree.specs.Numbering.{starting_values};
-ghost use Rattle.app_tree.specs.Current.{value_at};
-ghost use Rattle.rx_source.specs.Sourced.{sourced_of, outputs_before, width_place, height_place, told_by, IsOfSource};
+ghost use Rattle.app_tree.specs.Numbering.{numbers_of, starting_values};
+ghost use Rattle.app_tree.specs.Current.{value_at, told_at};
 ghost use Rattle.rx_source.specs.Changing.{change_of};
 
 use crate::answering::{plain_at, result_at, status_at};
-use crate::starting::{declared_values, outputs_before, push_sizes};
-use app_tree::{App, Read};
+use crate::starting::starting_values;
+use app_tree::{App, Read, SourceNumbers};
 use rx_value::{Memory, Outcome, SourceValue};
 use std::alloc::Global;
 use std::marker::Model;
@@ -22,42 +21,37 @@ pub enum Change {
     Same,
 }
 
-/// The current values of a session's sources.
+/// The current values of a session's sources, and where the sizes of the outputs stand among them.
 #[derive(Debug, Drop)]
 pub struct Sources {
+    numbers: SourceNumbers,
     values: Vec<SourceValue>,
-    /// How many of the sources are no width and no height.
-    declared: usize,
-    /// By reader number: how many outputs stand before that reader.
-    before: Vec<usize>,
-    outputs: usize,
 }
 
 impl Model for Sources {
-    ghost use Rattle.rx_source.specs.Sourced.{Sourced};
+    ghost use Rattle.rx_source.specs.NumberedValues.{NumberedValues};
 
-    ghost Value = { Sourced };
+    ghost Value = { NumberedValues };
 
-    ghost view = { λ s. record { values = s.values.items; declared = s.declared; before = s.before.items; outputs = s.outputs } };
+    ghost view = { λ s. record { numbers = s.numbers; values = s.values.items } };
 }
 
 impl Sources {
     /// The values at which the sources of this app start.
     pub fn new(alloc: Global, app: &App) -> Result<Sources, Memory>
-        ensures { IfOk result (λ s. s ≡ sourced_of (shape_of app.now) (starting_values (shape_of app.now).items)) }
+        ensures numbers { IfOk result (λ s. s.numbers ≡ numbers_of (shape_of app.now)) }
+        ensures values { IfOk result (λ s. s.values ≡ starting_values (shape_of app.now).items) }
     {
-        let items = app.items().as_slice();
-        let mut values = declared_values(alloc, items)?;
-        let declared = values.len();
-        push_sizes(items, &mut values)?;
-        push_sizes(items, &mut values)?;
-        let (before, outputs) = outputs_before(alloc, items)?;
-        Ok(Sources {
-            values,
-            declared,
-            before,
-            outputs,
-        })
+        let numbers = SourceNumbers::new(alloc, app)?;
+        let values = starting_values(alloc, app.items().as_slice())?;
+        Ok(Sources { numbers, values })
+    }
+
+    /// Where the sizes of the outputs stand.
+    pub fn numbers(&self) -> &SourceNumbers
+        ensures { result.now ≡ self.now.numbers }
+    {
+        &self.numbers
     }
 
     /// The count of sources.
@@ -90,40 +84,18 @@ impl Sources {
         &self.values[source as usize]
     }
 
-    fn before(&self, reader: u32) -> usize
-        ensures { result ≡ outputs_before self.now reader }
-    {
-        match self.before.get(reader as usize) {
-            Some(before) => *before,
-            None => 0,
-        }
-    }
-
-    fn width_place(&self, reader: u32) -> u128
-        ensures { result ≡ width_place self.now reader }
-    {
-        self.declared as u128 + self.before(reader) as u128
-    }
-
-    fn height_place(&self, reader: u32) -> u128
-        ensures { result ≡ height_place self.now reader }
-    {
-        self.declared as u128 + self.before(reader) as u128 + self.outputs as u128
-    }
-
-    /// What a read of a source is answered. A read of an expression is no read of a source.
+    /// What a read of a source is answered; a read of an expression, which is no source, stops silently.
     pub fn answer(&self, alloc: Global, read: Read) -> Result<Outcome, Memory>
-        requires { IsOfSource read }
-        ensures { IfOk result (λ outcome. outcome ≡ told_by self.now read) }
+        ensures { IfOk result (λ outcome. outcome ≡ told_at self.now.numbers self.now.values read) }
     {
         let values = self.values.as_slice();
         match read {
-            Read::Input(source) => plain_at(alloc, values, source as u128),
-            Read::Value(source) => plain_at(alloc, values, source as u128),
+            Read::Input(source) => plain_at(alloc, values, source),
+            Read::Value(source) => plain_at(alloc, values, source),
             Read::Status(source) => status_at(alloc, values, source),
             Read::Result(source) => result_at(alloc, values, source),
-            Read::Width(reader) => plain_at(alloc, values, self.width_place(reader)),
-            Read::Height(reader) => plain_at(alloc, values, self.height_place(reader)),
+            Read::Width(reader) => plain_at(alloc, values, self.numbers.width(reader)),
+            Read::Height(reader) => plain_at(alloc, values, self.numbers.height(reader)),
             Read::Expr(_) => Ok(Outcome::Stop),
         }
     }

@@ -4,6 +4,7 @@ use Rattle.std.specs.Prelude.{nat_le}
 use Rattle.std.specs.List.{list_all}
 use Rattle.std.specs.Char.{is_ascii_digit}
 use Rattle.std.proofs.lemmas.List.{drop_more}
+use Rattle.std.proofs.lemmas.Bool.{and_right}
 use Rattle.std.proofs.lemmas.Bool.Decides.{nat_tests}
 use Rattle.rx_value.specs.Functions.{number_behind, are_digits}
 
@@ -15,14 +16,10 @@ number_behind-grows n (d ∷ digits) = omega (arith, number_behind-grows (n * 10
 too_great : (m n : ℕ) → m ≤ n → nat_le m (2 ^ 63) ≡ false → nat_le n (2 ^ 63) ≡ false
 too_great m n le h = grind (arith, nat_tests)
 
-both_false : (a b : Bool) → b ≡ false → (a && b) ≡ false
-both_false true b h = h
-both_false false b h = refl
-
 -- what no digit follows, or one that makes the number too great, is no number
 unfit : (byte n : ℕ) (rest : List ℕ) (digit : Bool) → is_ascii_digit byte ≡ digit → (digit && nat_le (n * 10 + (byte - 48)) (2 ^ 63)) ≡ false
     → (digit && list_all is_ascii_digit rest && nat_le (number_behind n (byte ∷ rest)) (2 ^ 63)) ≡ false
-unfit byte n rest true is stops = both_false _ _ (too_great _ _ (number_behind-grows (n * 10 + (byte - 48)) rest) stops)
+unfit byte n rest true is stops = and_right _ _ (too_great _ _ (number_behind-grows (n * 10 + (byte - 48)) rest) stops)
 unfit byte n rest false is stops = refl
 
 pub stops-at : (bytes : List ℕ) (i n : ℕ) → i < length bytes

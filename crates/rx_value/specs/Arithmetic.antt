@@ -2,9 +2,9 @@
 use Rattle.std.specs.Prelude.{ℕ, suc, ◌/◌, ◌^◌, ℤ, pos, negsuc, ◌+ℤ◌, ◌-ℤ◌, ◌*ℤ◌, neg_ℤ, ◌≤ℤ◌, ◌<ℤ◌, Bool, nat_lt}
 
 -- whether a number fits 64 bits with sign
-abbrev pub fits : ℤ → Bool
-fits (pos n) = nat_lt n (2 ^ 63)
-fits (negsuc n) = nat_lt n (2 ^ 63)
+abbrev pub is_in_range : ℤ → Bool
+is_in_range (pos n) = nat_lt n (2 ^ 63)
+is_in_range (negsuc n) = nat_lt n (2 ^ 63)
 
 -- the quotient by a positive number, rounded down
 abbrev pub quotient_by : ℤ → ℕ → ℤ

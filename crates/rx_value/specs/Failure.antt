@@ -16,5 +16,5 @@ failure_text f.TextTooLong = codes "text too long"
 failure_text f.PlotSizeOutOfRange = codes "plot size out of range"
 
 -- an outcome that fails with this text
-abbrev pub failed : Failure → Outcome
-failed f = Fail (failure_text f)
+abbrev pub failure_outcome : Failure → Outcome
+failure_outcome f = Fail (failure_text f)

@@ -11,8 +11,9 @@ use Rattle.rx_value.specs.declared.outcome.Outcome.TheVariants as o
 use Rattle.rx_value.specs.declared.failure.Failure.TheVariants as f
 use Rattle.rx_value.specs.declared.function.Fun.{Fun}
 use Rattle.rx_value.specs.declared.function.Fun.TheVariants as fun
-use Rattle.rx_value.specs.Arithmetic.{fits}
-use Rattle.rx_value.specs.Failure.{failed}
+use Rattle.rx_value.specs.declared.limits.TheConstants.{TEXT_LIMIT, LIST_LIMIT}
+use Rattle.rx_value.specs.Arithmetic.{is_in_range}
+use Rattle.rx_value.specs.Failure.{failure_outcome}
 use Rattle.rx_value.specs.Numbers.{numbers_of}
 use Rattle.rx_value.specs.Operators.{number_outcome, bool_outcome}
 use Rattle.rx_value.specs.Show.{show}
@@ -40,7 +41,7 @@ takes_arguments g n = is_count (argument_count g) n
 -- what is made of the numbers of a value, or of several
 abbrev pub of_list : (List ℤ → Outcome) → Option (List ℤ) → Outcome
 of_list meaning (Some zs) = meaning zs
-of_list meaning None = failed f.WrongKind
+of_list meaning None = failure_outcome f.WrongKind
 
 abbrev pub is_list : Value → Bool
 is_list x = is_some (numbers_of x)
@@ -54,7 +55,7 @@ abbrev pub joined_numbers : List Value → Option (List ℤ)
 joined_numbers xs = if list_all is_list xs then Some (all_numbers xs) else None
 
 abbrev pub list_outcome : List ℤ → Outcome
-list_outcome zs = if nat_le (length zs) 1000 then o.Val (v.Ints zs) else failed f.ListTooLong
+list_outcome zs = if nat_le (length zs) LIST_LIMIT then o.Val (v.Ints zs) else failure_outcome f.ListTooLong
 
 -- 0 for NULL, the count of a list's numbers, else 1
 abbrev pub length_of : Value → ℕ
@@ -64,7 +65,7 @@ length_of _ = 1
 
 abbrev pub number_found : Option ℤ → Outcome
 number_found (Some z) = o.Val (v.Int z)
-number_found None = failed f.IndexOutOfRange
+number_found None = failure_outcome f.IndexOutOfRange
 
 -- the number at a place of a list, counted from 1
 abbrev pub number_at : List ℤ → ℤ → Option ℤ
@@ -73,7 +74,7 @@ number_at zs _ = None
 
 abbrev pub item_of : Option (List ℤ) → Value → Outcome
 item_of (Some zs) (v.Int i) = number_found (number_at zs i)
-item_of _ _ = failed f.WrongKind
+item_of _ _ = failure_outcome f.WrongKind
 
 -- the whole sum, which fits or not whatever its parts do
 abbrev pub sum_of : List ℤ → ℤ
@@ -104,11 +105,11 @@ count_between a b = natural_part (b +ℤ pos 1 -ℤ a)
 
 abbrev pub numbers_if : Bool → ℤ → ℕ → Outcome
 numbers_if true z n = o.Val (v.Ints (numbers_from z n))
-numbers_if false z n = failed f.ListTooLong
+numbers_if false z n = failure_outcome f.ListTooLong
 
 abbrev pub sequence_of : Value → Value → Outcome
-sequence_of (v.Int a) (v.Int b) = numbers_if (nat_le (count_between a b) 1000) a (count_between a b)
-sequence_of _ _ = failed f.WrongKind
+sequence_of (v.Int a) (v.Int b) = numbers_if (nat_le (count_between a b) LIST_LIMIT) a (count_between a b)
+sequence_of _ _ = failure_outcome f.WrongKind
 
 -- ---- texts
 
@@ -118,12 +119,12 @@ joined_texts [] = []
 joined_texts (x ∷ xs) = show x ++ joined_texts xs
 
 abbrev pub text_outcome : List ℕ → Outcome
-text_outcome t = if nat_le (length t) 65_536 then o.Val (v.Text t) else failed f.TextTooLong
+text_outcome t = if nat_le (length t) TEXT_LIMIT then o.Val (v.Text t) else failure_outcome f.TextTooLong
 
 -- the number of a text's characters
 abbrev pub characters_of : Value → Outcome
 characters_of (v.Text t) = o.Val (v.Int (pos (length (chars t))))
-characters_of _ = failed f.WrongKind
+characters_of _ = failure_outcome f.WrongKind
 
 -- the number that digits stand for, behind those that stand for n
 abbrev pub number_behind : ℕ → List ℕ → ℕ
@@ -142,7 +143,7 @@ number_if false z = None
 -- the number of digits with this sign, where it fits
 abbrev pub signed_number : (ℕ → ℤ) → List ℕ → Option ℤ
 signed_number sign bytes =
-    number_if (are_digits bytes && fits (sign (number_behind 0 bytes))) (sign (number_behind 0 bytes))
+    number_if (are_digits bytes && is_in_range (sign (number_behind 0 bytes))) (sign (number_behind 0 bytes))
 
 -- the number that an optional minus sign and digits spell
 abbrev pub number_of_text : List ℕ → Option ℤ
@@ -167,11 +168,11 @@ is_null _ = false
 
 abbrev pub of_one : (Value → Outcome) → List Value → Outcome
 of_one meaning (x ∷ []) = meaning x
-of_one meaning _ = failed f.WrongKind
+of_one meaning _ = failure_outcome f.WrongKind
 
 abbrev pub of_two : (Value → Value → Outcome) → List Value → Outcome
 of_two meaning (x ∷ y ∷ []) = meaning x y
-of_two meaning _ = failed f.WrongKind
+of_two meaning _ = failure_outcome f.WrongKind
 
 -- no call has another number of arguments than its function takes
 abbrev pub function_result : Fun → List Value → Outcome

@@ -1,7 +1,8 @@
 -- What makes values and keys fit for the keys of a map: the tests above decide equality, and equal
 -- ones are written to a hasher alike.
-use Rattle.std.specs.Prelude.{◌≡◌, ℤ, Bool, true, false, ◌&&◌, List, [], ◌∷◌, ◌++◌, refl}
+use Rattle.std.specs.Prelude.{◌≡◌, ℤ, Bool, true, false, List, [], ◌∷◌, ◌++◌, refl}
 use Rattle.std.proofs.Common.{ap, subst, Decides}
+use Rattle.std.proofs.Math.Bool.{and-eq-true_iff}
 use Rattle.std.proofs.lemmas.Slice.Eq.{bytes_eq-Decides}
 use Rattle.std.specs.Cmp.{unsigned_Decides, signed_Decides}
 use Rattle.std.specs.Hash as fed
@@ -22,10 +23,6 @@ value_writes (v.Ints zs) = fed.u8 4 ++ fed.slice fed.i64 zs
 abbrev pub key_writes : Key → HashWrites
 key_writes k = fed.u32 k.node ++ fed.slice value_writes k.parts
 
-both : (a b : Bool) → (a && b) ≡ true → (a ≡ true) × (b ≡ true)
-both true b h = (refl, h)
-both false b h = cc
-
 bools : (a b : Bool) → bool_eq a b ≡ true → a ≡ b
 bools true true h = refl
 bools true false h = cc
@@ -40,7 +37,8 @@ ints : (xs ys : List ℤ) → ints_eq xs ys ≡ true → xs ≡ ys
 ints [] [] h = refl
 ints [] (y ∷ ys) h = cc
 ints (x ∷ xs) [] h = cc
-ints (x ∷ xs) (y ∷ ys) h = let b = both _ _ h in let e = (signed_Decides x y).0 b.0 in let f = ints xs ys b.1 in cc
+ints (x ∷ xs) (y ∷ ys) h =
+    let b = (and-eq-true_iff _ _).0 h in let e = (signed_Decides x y).0 b.0 in let f = ints xs ys b.1 in cc
 
 ints_eq-itself : (xs : List ℤ) → ints_eq xs xs ≡ true
 ints_eq-itself [] = refl
@@ -65,7 +63,8 @@ values : (xs ys : List Value) → values_eq xs ys ≡ true → xs ≡ ys
 values [] [] h = refl
 values [] (y ∷ ys) h = cc
 values (x ∷ xs) [] h = cc
-values (x ∷ xs) (y ∷ ys) h = let b = both _ _ h in let e = same_value x y b.0 in let f = values xs ys b.1 in cc
+values (x ∷ xs) (y ∷ ys) h =
+    let b = (and-eq-true_iff _ _).0 h in let e = same_value x y b.0 in let f = values xs ys b.1 in cc
 
 values_eq-itself : (xs : List Value) → values_eq xs xs ≡ true
 values_eq-itself [] = refl
@@ -75,7 +74,11 @@ pub value_eq-Decides : (a b : Value) → Decides (value_eq a b) (a ≡ b)
 value_eq-Decides a b = (same_value a b, λ e. subst (λ (w : Value). value_eq a w ≡ true) e (value_eq-itself a))
 
 pub same_key : (k l : Key) → key_eq k l ≡ true → k ≡ l
-same_key k l h = let b = both _ _ h in let e = (unsigned_Decides k.node l.node).0 b.0 in let f = values k.parts l.parts b.1 in λ i. record { node = e i; parts = f i }
+same_key k l h =
+    let b = (and-eq-true_iff _ _).0 h in
+    let e = (unsigned_Decides k.node l.node).0 b.0 in
+    let f = values k.parts l.parts b.1 in
+    λ i. record { node = e i; parts = f i }
 
 pub key_eq-itself : (k : Key) → key_eq k k ≡ true
 key_eq-itself k = rw ((unsigned_Decides k.node k.node).1 refl, values_eq-itself k.parts)

@@ -1,3 +1,4 @@
+pub mod Results
 pub mod Value
 pub mod Show
 pub mod Failure

@@ -14,7 +14,8 @@ use Rattle.rx_value.specs.declared.failure.Failure.{Failure}
 use Rattle.rx_value.specs.declared.failure.Failure.TheVariants.{WrongKind, TextTooLong, PlotSizeOutOfRange}
 use Rattle.rx_value.specs.declared.plot.Plot.{Plot}
 use Rattle.rx_value.specs.declared.plot.Plot.TheVariants.{Bars, Lines, Points}
-use Rattle.rx_value.specs.Failure.{failed}
+use Rattle.rx_value.specs.declared.limits.TheConstants.{TEXT_LIMIT, PLOT_SIDE_MIN, PLOT_SIDE_MAX}
+use Rattle.rx_value.specs.Failure.{failure_outcome}
 use Rattle.rx_value.specs.Numbers.{numbers_of}
 
 -- the least of 0 and the numbers
@@ -41,10 +42,16 @@ pub record Frame : Type 0 where
 
 abbrev pub frame_of : ℕ → ℕ → List ℤ → Frame
 frame_of width height zs =
-    record { width = width; height = height; count = length zs; low = least zs; high = upper_end (least zs) (greatest zs) }
+    record {
+      width = width;
+      height = height;
+      count = length zs;
+      low = least zs;
+      high = upper_end (least zs) (greatest zs);
+    }
 
--- Pixels are counted from the left and from the top. 10 stay free at the left, at the right and at the bottom, and 30 at the
--- top, where the title stands. A quotient is rounded down.
+-- Pixels are counted from the left and from the top. 10 stay free at the left, at the right and at the bottom, and 30
+-- at the top, where the title stands. A quotient is rounded down.
 
 -- the height of a number
 unfoldable pub y_of : Frame → ℤ → ℕ
@@ -60,12 +67,14 @@ x_of f i = if f.count == 1 then 10 + (f.width - 20) / 2 else 10 + i * (f.width -
 
 unfoldable pub rect : ℕ → ℕ → ℕ → ℕ → List ℕ
 rect x y width height =
-    codes "<rect x=\"" ++ decimal x ++ codes "\" y=\"" ++ decimal y ++ codes "\" width=\"" ++ decimal width ++ codes "\" height=\"" ++ decimal height ++ codes "\"/>"
+    codes "<rect x=\"" ++ decimal x ++ codes "\" y=\"" ++ decimal y ++ codes "\" width=\"" ++ decimal width
+    ++ codes "\" height=\"" ++ decimal height ++ codes "\"/>"
 
 -- a bar stands between its number and 0
 abbrev pub bar : Frame → ℕ → ℤ → List ℕ
 bar f i z =
-    rect (edge_of f i) (min (y_of f z) (y_of f (pos 0))) (edge_of f (i + 1) - edge_of f i) (abs_diff (y_of f z) (y_of f (pos 0)))
+    rect (edge_of f i) (min (y_of f z) (y_of f (pos 0)))
+    (edge_of f (i + 1) - edge_of f i) (abs_diff (y_of f z) (y_of f (pos 0)))
 
 -- the bars of the numbers from place i on
 abbrev pub bars_from : Frame → ℕ → List ℤ → List ℕ
@@ -117,44 +126,49 @@ escaped c =
 
 unfoldable pub opening : ℕ → ℕ → List ℕ
 opening width height =
-    codes "<svg xmlns=\"http://www.w3.org/2000/svg\" width=\"" ++ decimal width ++ codes "\" height=\"" ++ decimal height ++ codes "\">"
+    codes "<svg xmlns=\"http://www.w3.org/2000/svg\" width=\"" ++ decimal width
+    ++ codes "\" height=\"" ++ decimal height ++ codes "\">"
 
 -- the title, above the marks
 abbrev pub heading : List ℕ → List ℕ
 heading title = codes "<text x=\"10\" y=\"20\">" ++ flat_map escaped (chars title) ++ codes "</text>"
 
 -- the whole text, however long
-abbrev pub picture : Plot → ℕ → ℕ → List ℕ → List ℤ → List ℕ
-picture plot width height title zs =
+abbrev pub plot_text : Plot → ℕ → ℕ → List ℕ → List ℤ → List ℕ
+plot_text plot width height title zs =
     opening width height ++ heading title ++ marks plot (frame_of width height zs) zs ++ codes "</svg>"
 
--- a text of at most 65,536 bytes
-abbrev pub limited : List ℕ → Result (List ℕ) Failure
-limited text = if nat_le (length text) 65536 then Ok text else Err TextTooLong
+-- the text, which may have at most 65,536 bytes
+abbrev pub limited_text : List ℕ → Result (List ℕ) Failure
+limited_text text = if nat_le (length text) TEXT_LIMIT then Ok text else Err TextTooLong
 
 -- a side has from 64 to 4,096 pixels
 abbrev pub side_of : ℤ → Option ℕ
-side_of (pos n) = if nat_le 64 n && nat_le n 4096 then Some n else None
+side_of (pos n) = if nat_le PLOT_SIDE_MIN n && nat_le n PLOT_SIDE_MAX then Some n else None
 side_of (negsuc n) = None
 
-abbrev pub sized : Plot → Option ℕ → Option ℕ → List ℕ → List ℤ → Result (List ℕ) Failure
-sized plot (Some width) (Some height) title zs = limited (picture plot width height title zs)
-sized plot (Some width) None title zs = Err PlotSizeOutOfRange
-sized plot None height title zs = Err PlotSizeOutOfRange
+-- a text of these sides, where both are right
+abbrev pub text_of_sides : Plot → Option ℕ → Option ℕ → List ℕ → List ℤ → Result (List ℕ) Failure
+text_of_sides plot (Some width) (Some height) title zs = limited_text (plot_text plot width height title zs)
+text_of_sides plot (Some width) None title zs = Err PlotSizeOutOfRange
+text_of_sides plot None height title zs = Err PlotSizeOutOfRange
 
-abbrev pub of_numbers : Plot → ℤ → ℤ → List ℕ → Option (List ℤ) → Result (List ℕ) Failure
-of_numbers plot width height title None = Err WrongKind
-of_numbers plot width height title (Some zs) = sized plot (side_of width) (side_of height) title zs
+-- a text of these numbers, where there are any
+abbrev pub text_of_numbers : Plot → ℤ → ℤ → List ℕ → Option (List ℤ) → Result (List ℕ) Failure
+text_of_numbers plot width height title None = Err WrongKind
+text_of_numbers plot width height title (Some zs) = text_of_sides plot (side_of width) (side_of height) title zs
 
--- the text of a plot, by its width, height, title and data; a wrong kind comes before a wrong size, and that before the text's length
+-- the text of a plot, by its width, height, title and data; a wrong kind comes before a wrong size, and that before the
+-- text's length
 abbrev pub svg_text : Plot → Value → Value → Value → Value → Result (List ℕ) Failure
-svg_text plot (v.Int width) (v.Int height) (v.Text title) list = of_numbers plot width height title (numbers_of list)
+svg_text plot (v.Int width) (v.Int height) (v.Text title) list =
+    text_of_numbers plot width height title (numbers_of list)
 svg_text plot _ _ _ _ = Err WrongKind
 
-abbrev pub plotted : Result (List ℕ) Failure → Outcome
-plotted (Ok text) = Val (v.Text text)
-plotted (Err failure) = failed failure
+abbrev pub plot_outcome : Result (List ℕ) Failure → Outcome
+plot_outcome (Ok text) = Val (v.Text text)
+plot_outcome (Err failure) = failure_outcome failure
 
 -- what a plot evaluates to
 abbrev pub plot_result : Plot → Value → Value → Value → Value → Outcome
-plot_result plot width height title list = plotted (svg_text plot width height title list)
+plot_result plot width height title list = plot_outcome (svg_text plot width height title list)

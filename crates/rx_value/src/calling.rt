@@ -6,9 +6,10 @@ ghost use Rattle.rx_value.specs.Operators.{number_outcome};
 use crate::arithmetic::number_outcome;
 use crate::failure::Failure;
 use crate::function::Fun;
+use crate::limits::LIST_LIMIT;
 use crate::memory::Memory;
 use crate::numbers::{
-    LIST_LIMIT, all_lists, all_numbers, count_between, greatest_of, least_of, length_of, number_at,
+    all_lists, all_numbers, count_between, greatest_of, least_of, length_of, number_at,
     numbers_from, sum_of,
 };
 use crate::operation::bool_outcome;

@@ -1,5 +1,5 @@
 ghost use Rattle.std.specs.Prelude.{◌≡◌, IfOk};
-ghost use Rattle.rx_value.specs.Failure.{failure_text, failed};
+ghost use Rattle.rx_value.specs.Failure.{failure_text, failure_outcome};
 
 use crate::memory::Memory;
 use crate::outcome::Outcome;
@@ -45,7 +45,7 @@ impl Failure {
 
     /// The outcome of an evaluation that fails so.
     pub fn outcome(self, alloc: Global) -> Result<Outcome, Memory>
-        ensures { IfOk result (λ outcome. outcome ≡ failed self) }
+        ensures { IfOk result (λ outcome. outcome ≡ failure_outcome self) }
     {
         Ok(Outcome::Fail(RxText::from_str(alloc, self.text())?))
     }

@@ -9,23 +9,18 @@ mod arithmetic;
 mod calling;
 mod failure;
 mod function;
-#[cfg(test)]
-mod function_tests;
 mod key;
+mod limits;
 mod list;
 mod memory;
 mod numbers;
 mod operation;
 mod operator;
-#[cfg(test)]
-mod operator_tests;
 mod outcome;
 mod plot;
 mod shown;
 mod source;
 mod spelling;
-#[cfg(test)]
-mod tests;
 mod text;
 mod value;
 mod weight;
@@ -34,6 +29,7 @@ pub use calling::call;
 pub use failure::Failure;
 pub use function::Fun;
 pub use key::Key;
+pub use limits::{GREATEST_NUMBER, LIST_LIMIT, PLOT_SIDE_MAX, PLOT_SIDE_MIN, TEXT_LIMIT};
 pub use list::{RxInts, RxList, Values};
 pub use memory::Memory;
 pub use operation::{binary, unary};

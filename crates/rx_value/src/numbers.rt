@@ -5,13 +5,11 @@ ghost use Rattle.std.specs.List.{list_all};
 ghost use Rattle.rx_value.specs.Numbers.{numbers_of};
 ghost use Rattle.rx_value.specs.Functions.{is_list, all_numbers, length_of, number_at, sum_of, least_of, greatest_of, numbers_from, count_between};
 
+use crate::limits::LIST_LIMIT;
 use crate::list::RxInts;
 use crate::memory::Memory;
 use crate::value::Value;
 use std::alloc::Global;
-
-/// How many numbers a list may have.
-pub const LIST_LIMIT: usize = 1000;
 
 /// Whether each of the values is a list, or is taken as one.
 pub fn all_lists(values: &[Value]) -> bool
@@ -33,7 +31,9 @@ fn append(numbers: &[i64], list: &mut RxInts) -> Result<(), Memory>
 /// The numbers of all values, one list behind the other; None where there are more than a list may
 /// have.
 pub fn all_numbers(alloc: Global, values: &[Value]) -> Result<Option<RxInts>, Memory>
-    ensures { IfOk result (λ list. MatchOption list (1000 < length (all_numbers values.now)) (λ zs. (zs ≡ all_numbers values.now) × (length zs ≤ 1000))) }
+    ensures { IfOk result (λ list.
+        MatchOption list (LIST_LIMIT < length (all_numbers values.now))
+        (λ zs. (zs ≡ all_numbers values.now) × (length zs ≤ LIST_LIMIT))) }
 {
     let mut list = RxInts::new(alloc);
     for value in values {

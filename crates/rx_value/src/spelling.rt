@@ -3,19 +3,19 @@ ghost use Rattle.std.specs.Char.{is_ascii_digit};
 ghost use Rattle.std.specs.Str.{chars};
 ghost use Rattle.rx_value.specs.Functions.{joined_texts, are_digits, number_behind, signed_number, number_of_text};
 
+use crate::limits::TEXT_LIMIT;
 use crate::memory::Memory;
 use crate::shown::show;
 use crate::text::RxText;
 use crate::value::Value;
 use std::alloc::Global;
 
-/// How many bytes a text may have.
-pub const TEXT_LIMIT: usize = 65_536;
-
 /// What is shown for all values, one text behind the other; None where it has more bytes than a text
 /// may have.
 pub fn joined_texts(alloc: Global, values: &[Value]) -> Result<Option<RxText>, Memory>
-    ensures { IfOk result (λ text. MatchOption text (65_536 < length (joined_texts values.now)) (λ t. (t ≡ joined_texts values.now) × (length t ≤ 65_536))) }
+    ensures { IfOk result (λ text.
+        MatchOption text (TEXT_LIMIT < length (joined_texts values.now))
+        (λ t. (t ≡ joined_texts values.now) × (length t ≤ TEXT_LIMIT))) }
 {
     let mut joined = RxText::new(alloc);
     for value in values {

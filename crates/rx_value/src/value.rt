@@ -1,7 +1,7 @@
 ghost use Rattle.std.specs.Prelude.{◌≡◌, ◌↔◌, IfOk, IsTrue, MatchOption, None, Some};
 ghost use Rattle.rx_value.specs.Value.{value_eq, ints_eq};
 ghost use Rattle.rx_value.specs.Numbers.{numbers_of};
-ghost use Rattle.rx_value.specs.Truth.{truthy};
+ghost use Rattle.rx_value.specs.Truth.{is_truthy};
 
 use crate::list::RxInts;
 use crate::memory::Memory;
@@ -55,8 +55,8 @@ impl Value {
     }
 
     /// Whether `req` lets the value pass: all but NULL, FALSE, the empty text and the empty list.
-    pub fn truthy(&self) -> bool
-        ensures { result ≡ truthy self.now }
+    pub fn is_truthy(&self) -> bool
+        ensures { result ≡ is_truthy self.now }
     {
         match self {
             Value::Null => false,

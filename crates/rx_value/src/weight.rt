@@ -1,6 +1,6 @@
 //! Weights bound the length of keys and the size of a cache. They take no memory.
 ghost use Rattle.std.specs.Prelude.{◌≡◌, ◌+◌, length};
-ghost use Rattle.rx_value.specs.Weight.{saturated, value_weight, key_weight, outcome_weight};
+ghost use Rattle.rx_value.specs.Weight.{saturated_weight, value_weight, key_weight, outcome_weight};
 
 use crate::key::Key;
 use crate::outcome::Outcome;
@@ -8,7 +8,7 @@ use crate::text::RxText;
 use crate::value::Value;
 
 fn text_weight(text: &RxText) -> u64
-    ensures { result ≡ saturated (5 + length text.now) }
+    ensures { result ≡ saturated_weight (5 + length text.now) }
 {
     5u64.saturating_add(text.len() as u64)
 }

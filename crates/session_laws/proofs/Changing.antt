@@ -18,10 +18,10 @@ use Rattle.app_tree.specs.Fresh.{Known, known_at, answer_to, sources_of_reads, i
 use Rattle.session_model.specs.declared.state.Dependencies.{Dependencies}
 use Rattle.session_model.specs.declared.state.ReaderState.{ReaderState}
 use Rattle.session_model.specs.State.{SessionState, first_reader, reader_state, sources_in, is_alive}
-use Rattle.session_model.specs.Change.{reaches, marked_dependencies, marked, changed_to}
+use Rattle.session_model.specs.Change.{marked_dependencies, marked_reader, with_source_value}
 use Rattle.app_tree.specs.Trace.{Every, EveryRead}
 use Rattle.app_laws.specs.Orderly.{ReadsBelow, bound_of, IsOrderly}
-use Rattle.session_laws.specs.Now.{kept_by, now_by, sites_now, known_now, evaluation_now}
+use Rattle.session_laws.specs.Now.{kept_site, site_now, sites_now, known_now, evaluation_now}
 use Rattle.session_model.specs.Standing.{IsAliveRead}
 use Rattle.session_laws.specs.Sound.{IsSoundAt, IsSound}
 use Rattle.app_laws.proofs.WhatIsAsked.{reads_map, reads_zip, IsGiven}
@@ -51,7 +51,7 @@ set_other : {A : Type 0} (xs : List A) (s t : ℕ) (x : A) → (t == s) ≡ fals
 set_other xs s t x h = set_there xs s t x (elim (eqb_tells t s) [ inl p ↦ absurd (not_both p.0 h) | inr p ↦ p.1 ])
 
 -- a list without it
-none_reached : (s : ℕ) (xs : List ℕ) → reaches s xs ≡ false → Every (λ t. (t == s) ≡ false) xs
+none_reached : (s : ℕ) (xs : List ℕ) → is_among s xs ≡ false → Every (λ t. (t == s) ≡ false) xs
 none_reached s [] h = tt
 none_reached s (x ∷ xs) h = (left (x == s) (list_any (λ t. t == s) xs) h, none_reached s xs (right (x == s) (list_any (λ t. t == s) xs) h))
   where
@@ -66,38 +66,38 @@ none_reached s (x ∷ xs) h = (left (x == s) (list_any (λ t. t == s) xs) h, non
 -- who is alive behind a change was alive before, and reaches nothing of it
 pub record Unmarked (s : ℕ) (r : ReaderState) : Type 0 where
   pub alive : is_alive r ≡ true
-  pub apart : reaches s (sources_in r.dependencies) ≡ false
-  pub stays : marked s r ≡ r
+  pub apart : is_among s (sources_in r.dependencies) ≡ false
+  pub stays : marked_reader s r ≡ r
 
 unmarked_by : (s : ℕ) (r : ReaderState) (o : Option Dependencies) → r.dependencies ≡ o → alive_by (marked_dependencies s o) ≡ true → Unmarked s r
 unmarked_by s r None h a = cc
-unmarked_by s r (Some d) h a = by (reaches s d.sources) refl a
+unmarked_by s r (Some d) h a = by (is_among s d.sources) refl a
   where
-    by : (b : Bool) → reaches s d.sources ≡ b → not (if b then record d { changed = true } else d).changed ≡ true → Unmarked s r
+    by : (b : Bool) → is_among s d.sources ≡ b → not (if b then record d { changed = true } else d).changed ≡ true → Unmarked s r
     by true q x = absurd (false≢true x)
     by false q x = record {
       alive = ap alive_by h ∙ x;
-      apart = ap (λ z. reaches s (sources_in z)) h ∙ q;
+      apart = ap (λ z. is_among s (sources_in z)) h ∙ q;
       stays = ap (λ z. record r { dependencies = z }) (ap (marked_dependencies s) h ∙ ap (λ b. Some (if b then record d { changed = true } else d)) q ∙ sym h);
     }
 
-pub unmarked : (s : ℕ) (r : ReaderState) → is_alive (marked s r) ≡ true → Unmarked s r
+pub unmarked : (s : ℕ) (r : ReaderState) → is_alive (marked_reader s r) ≡ true → Unmarked s r
 unmarked s r a = unmarked_by s r r.dependencies refl a
 
 -- and the other way round
-pub still_alive : (s : ℕ) (r : ReaderState) → is_alive r ≡ true → reaches s (sources_in r.dependencies) ≡ false → is_alive (marked s r) ≡ true
+pub still_alive : (s : ℕ) (r : ReaderState) → is_alive r ≡ true → is_among s (sources_in r.dependencies) ≡ false → is_alive (marked_reader s r) ≡ true
 still_alive s r a h = by r.dependencies refl
   where
-    by : (o : Option Dependencies) → r.dependencies ≡ o → is_alive (marked s r) ≡ true
+    by : (o : Option Dependencies) → r.dependencies ≡ o → is_alive (marked_reader s r) ≡ true
     by None q = absurd (false≢true (sym (ap alive_by q) ∙ a))
-    by (Some d) q = ap (λ z. alive_by (marked_dependencies s z)) q ∙ ap (λ b. not (if b then record d { changed = true } else d).changed) (ap (λ z. reaches s (sources_in z)) (sym q) ∙ h) ∙ ap alive_by (sym q) ∙ a
+    by (Some d) q = ap (λ z. alive_by (marked_dependencies s z)) q ∙ ap (λ b. not (if b then record d { changed = true } else d).changed) (ap (λ z. is_among s (sources_in z)) (sym q) ∙ h) ∙ ap alive_by (sym q) ∙ a
 
-pub marked_at : (s n : ℕ) (x : SourceValue) (M : SessionState) → reader_state (changed_to s x M) n ≡ marked s (reader_state M n)
-marked_at s n x M = get_mapped (marked s) first_reader M.readers n
+pub marked_at : (s n : ℕ) (x : SourceValue) (M : SessionState) → reader_state (with_source_value s x M) n ≡ marked_reader s (reader_state M n)
+marked_at s n x M = get_mapped (marked_reader s) first_reader M.readers n
 
 module _ (app : Shape) (orderly : IsOrderly app) (covered : (n : ℕ) → is_covered app n ≡ true) (M : SessionState) (sound : IsSound app M) (s : ℕ) (x : SourceValue) where
   abbrev N : SessionState
-  N = changed_to s x M
+  N = with_source_value s x M
 
   abbrev Q : ℕ → Type 0
   Q t = (t == s) ≡ false
@@ -115,22 +115,22 @@ module _ (app : Shape) (orderly : IsOrderly app) (covered : (n : ℕ) → is_cov
   same_reader : (n : ℕ) → Live n → reader_state N n ≡ reader_state M n
   same_reader n l = marked_at s n x M ∙ (was n l).stays
 
-  kept_now : (n : ℕ) → Live n → sites_now app M n ≡ kept_by (reader_state M n)
+  kept_now : (n : ℕ) → Live n → sites_now app M n ≡ kept_site (reader_state M n)
   kept_now n l = alive_now app n (reader_state M n) (was n l).alive
 
   given : (n : ℕ) → Live n → (t : ℕ) → IsGiven (sites_now app M n t)
   given n l t = subst IsGiven (ap (λ f. f t) (sym (kept_now n l))) tt
 
   same_sites : (n : ℕ) → Live n → (t : ℕ) → sites_now app M n t ≡ sites_now app N n t
-  same_sites n l t = ap (λ r. now_by app n r t) (sym (same_reader n l))
+  same_sites n l t = ap (λ r. site_now app n r t) (sym (same_reader n l))
 
   -- what it depends on is what it reaches
   quiet_here : (n : ℕ) (i : Node) → reader app n ≡ Some i → is_evaluated i ≡ true → Live n → Every Q (sources_of_reads app (known_now app M) [] (evaluation_now app M n).outside)
   quiet_here n i is e l = none_reached s (sources_of_reads app (known_now app M) [] (evaluation_now app M n).outside) (sym ((sound.at n i is e (was n l).alive).sources s) ∙ (was n l).apart)
 
-  reached_none : (xs : List ℕ) → Every Q xs → reaches s xs ≡ false
+  reached_none : (xs : List ℕ) → Every Q xs → is_among s xs ≡ false
   reached_none [] h = refl
-  reached_none (y ∷ xs) h = ap (λ b. b || reaches s xs) h.0 ∙ reached_none xs h.1
+  reached_none (y ∷ xs) h = ap (λ b. b || is_among s xs) h.0 ∙ reached_none xs h.1
 
   -- an expression that was alive, and is quiet, stays alive
   stays_live : (m : ℕ) → is_expression_at (reader app m) ≡ true → is_alive (reader_state M m) ≡ true → Every Q (known_at (known_now app M) m).sources → Live m
@@ -179,4 +179,4 @@ module _ (app : Shape) (orderly : IsOrderly app) (covered : (n : ℕ) → is_cov
   }
 
   pub changed_sound : IsSound app N
-  changed_sound = record { size = map_size (marked s) M.readers ∙ sound.size; at = sound_there }
+  changed_sound = record { size = map_size (marked_reader s) M.readers ∙ sound.size; at = sound_there }

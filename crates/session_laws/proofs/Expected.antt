@@ -9,8 +9,8 @@ use Rattle.app_tree.specs.Current.{value_at}
 use Rattle.session_model.specs.declared.event.Event.{Event}
 use Rattle.session_model.specs.declared.state.ReaderState.{ReaderState}
 use Rattle.session_model.specs.State.{SessionState}
-use Rattle.session_model.specs.Change.{changed_to}
-use Rattle.session_model.specs.Flush.{Waiting, and_later, is_waiting, priority_of, waiting_from, next_waiting, RunResult, make_run, done, Flushed, failure_of, unless_failed, flush_step, end_without_budget, flush_within, flush}
+use Rattle.session_model.specs.Change.{with_source_value}
+use Rattle.session_model.specs.Flush.{Waiting, and_later, is_waiting, priority_of, waiting_from, next_waiting, RunResult, make_run, done, FlushResult, failure_of, go_on_unless_failed, flush_step, end_without_budget, flush_within, flush}
 use Rattle.session_model.specs.Alone.{Ending, JournalResult, first_result, effect_from, result_after, items_after, after_event, effect_texts, texts_of_event, result_from, answers_from}
 use Rattle.session_laws.specs.Laws.{EqualValueChangesNothing, IsSettled, DoneIsSettled, IsWithinBudget, AnswersGoOn, OverStays, OverIsSilent}
 
@@ -22,7 +22,7 @@ kept_where false x y h = cc
 
 pub equal_value_changes_nothing : EqualValueChangesNothing
 equal_value_changes_nothing state s x h =
-    kept_where (source_eq (value_at state.values s) x) state (changed_to s x state) (ap (λ v. source_eq v x) h ∙ source_eq-itself x)
+    kept_where (source_eq (value_at state.values s) x) state (with_source_value s x state) (ap (λ v. source_eq v x) h ∙ source_eq-itself x)
 
 -- ---- the flush
 
@@ -53,22 +53,22 @@ ends_done (Some n) h = cc
 
 module _ (app : Shape) where
   -- what is known of a flush with so many runs left
-  pub record Rests (left : ℕ) (flushed : Flushed) : Type 0 where
+  pub record Rests (left : ℕ) (flushed : FlushResult) : Type 0 where
     pub settled : flushed.end ≡ done → next_waiting app flushed.state ≡ None
     pub few : length flushed.runs ≤ left
 
-  abbrev RestsAlways : ℕ → (SessionState → Flushed) → Type 0
+  abbrev RestsAlways : ℕ → (SessionState → FlushResult) → Type 0
   RestsAlways left go_on = (state : SessionState) → Rests left (go_on state)
 
-  rests_failure : (left : ℕ) (go_on : SessionState → Flushed) → RestsAlways left go_on → (why : Option (List ℕ)) → RestsAlways left (unless_failed why go_on)
+  rests_failure : (left : ℕ) (go_on : SessionState → FlushResult) → RestsAlways left go_on → (why : Option (List ℕ)) → RestsAlways left (go_on_unless_failed why go_on)
   rests_failure left go_on h None state = h state
   rests_failure left go_on h (Some why) state = record { settled = λ e. absurd cc; few = omega arith }
 
-  rests_step : (left : ℕ) (go_on : SessionState → Flushed) → RestsAlways left go_on → (o : Option ℕ) (state : SessionState) → next_waiting app state ≡ o → Rests (suc left) (flush_step app go_on state o)
+  rests_step : (left : ℕ) (go_on : SessionState → FlushResult) → RestsAlways left go_on → (o : Option ℕ) (state : SessionState) → next_waiting app state ≡ o → Rests (suc left) (flush_step app go_on state o)
   rests_step left go_on h None state p = record { settled = λ e. p; few = omega arith }
   rests_step left go_on h (Some n) state p =
       let first : RunResult = make_run app n state in
-      let rest : Rests left (unless_failed (failure_of app first.run) go_on first.state) = rests_failure left go_on h (failure_of app first.run) first.state in
+      let rest : Rests left (go_on_unless_failed (failure_of app first.run) go_on first.state) = rests_failure left go_on h (failure_of app first.run) first.state in
       let few = rest.few in
       record { settled = rest.settled; few = omega (few, arith) }
 

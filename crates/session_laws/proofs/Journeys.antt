@@ -3,6 +3,7 @@
 use Rattle.std.proofs.Common.{◌≡◌, ◌<◌, ℕ, zero, suc, ◌+◌, Bool, true, false, List, [], ◌∷◌, length, Option, Some, None, refl, sym, ap, ◌∙◌, subst, arith}
 use Rattle.std.proofs.lemmas.Bool.{false≢true}
 use Rattle.std.specs.Prelude.{⊤, not, ◌&&◌, ◌||◌, slice_get, unwrap_or, option_map, int_lt, if◌then◌else◌}
+use Rattle.std.proofs.Math.Bool.{and-eq-true_iff}
 use Rattle.rx_value.specs.declared.value.Value.{Value}
 use Rattle.rx_value.specs.declared.outcome.Outcome.{Outcome}
 use Rattle.rx_value.specs.declared.source.TaskView.TheVariants as view
@@ -19,18 +20,18 @@ use Rattle.app_tree.specs.Fresh.{fresh_outcome}
 use Rattle.task_board.specs.declared.job.Invocation.{Invocation}
 use Rattle.task_board.specs.declared.job.Ended.{Ended}
 use Rattle.task_board.specs.declared.job.Ended.TheVariants.{Next, Quiet, Stale}
-use Rattle.task_board.specs.Board.{AfterEnd, board_at, ended}
+use Rattle.task_board.specs.Board.{AfterEnd, board_at, end_result}
 use Rattle.session_model.specs.declared.event.Event.{Event}
 use Rattle.session_model.specs.declared.event.Event.TheVariants.{Text, Other, TaskEnd, End}
 use Rattle.session_model.specs.declared.state.ReaderState.{ReaderState}
 use Rattle.session_model.specs.State.{SessionState, first_reader, first_state, isolated_of, reader_state, is_alive}
 use Rattle.session_model.specs.Change.{thaw}
-use Rattle.session_model.specs.Tasks.{first_task, ended_view, see_task, shown_after, end_running, end_task, is_running}
+use Rattle.session_model.specs.Tasks.{first_task, ended_view, see_task, with_end_shown, end_running, end_task, is_running}
 use Rattle.app_tree.specs.Tasks.{task_outcome}
-use Rattle.session_model.specs.Flush.{is_wanted, is_waiting, Waiting, first_of, and_later, priority_of, waiting_from, next_waiting, RunResult, is_observer_at, make_by, make_run, FlushEnd, done, budget_spent, observer_failed, Flushed, failure_of, unless_failed, flush_step, flush_within, flush}
+use Rattle.session_model.specs.Flush.{is_wanted, is_waiting, Waiting, first_of, and_later, priority_of, waiting_from, next_waiting, RunResult, is_observer_at, make_by, make_run, FlushEnd, done, budget_spent, observer_failed, FlushResult, failure_of, go_on_unless_failed, flush_step, flush_within, flush}
 use Rattle.session_model.specs.Apply.{Target, width, height, hidden, target_of, is_shown_by, with_shown, apply_to, apply_pair, apply_pairs}
 use Rattle.session_model.specs.Apply as target
-use Rattle.session_model.specs.Alone.{Ending, JournalResult, first_result, Effect, flushes, refuses, ends, nothing, applied, message_effect, task_effect, event_effect, effect_from, effect, flush_ending, items_after, result_after, after_event, result_from, journal_result}
+use Rattle.session_model.specs.Alone.{Ending, JournalResult, first_result, Effect, flushes, refuses, ends, nothing, flush_with_pairs, message_effect, task_effect, event_effect, effect_from, effect, flush_ending, items_after, result_after, after_event, result_from, journal_result}
 use Rattle.app_laws.specs.Orderly.{IsOrderly}
 use Rattle.session_laws.specs.Sound.{IsRight}
 use Rattle.session_laws.proofs.Expected.{settled, nobody_waits}
@@ -119,10 +120,6 @@ wanted_kind (plot name shown) r h o = refl
 wanted_kind (observe name priority block) r h o = cc
 wanted_kind (on name priority flags e block) r h o = cc
 
-both_left : (a b : Bool) → (a && b) ≡ true → a ≡ true
-both_left true b h = refl
-both_left false b h = cc
-
 not_true : (b : Bool) → not b ≡ true → b ≡ false
 not_true true h = cc
 not_true false h = refl
@@ -140,19 +137,19 @@ module _ (app : Shape) (orderly : IsOrderly app) (covered : (n : ℕ) → is_cov
   run_by : (n : ℕ) (state : SessionState) → IsRight app state → (i : Node) → reader app n ≡ Some i → is_waiting i (reader_state state n) ≡ true → (b : Bool) → is_observer i ≡ b → IsRight app (make_by b app n state).state
   run_by n state right i is waits true o = right_observed app orderly covered n (λ j js. subst (λ k. is_evaluated k ≡ false) (some_is (sym is ∙ js)) (observer_alone i o)) state right
   run_by n state right i is waits false o =
-      right_output app orderly covered n i is (wanted_kind i (reader_state state n) (both_left (is_wanted i (reader_state state n)) (not (is_alive (reader_state state n))) waits) o) state right (waiting_dead i (reader_state state n) waits)
+      right_output app orderly covered n i is (wanted_kind i (reader_state state n) ((and-eq-true_iff (is_wanted i (reader_state state n)) (not (is_alive (reader_state state n)))).0 waits).0 o) state right (waiting_dead i (reader_state state n) waits)
 
   pub right_run : (n : ℕ) (state : SessionState) → IsRight app state → Waits app state n → IsRight app (make_run app n state).state
   right_run n state right w = subst (λ b. IsRight app (make_by b app n state).state) (sym (ap is_observer_at w.is)) (run_by n state right w.node w.is w.waits (is_observer w.node) refl)
 
-  abbrev Keeps : (SessionState → Flushed) → Type 0
+  abbrev Keeps : (SessionState → FlushResult) → Type 0
   Keeps go_on = (state : SessionState) → IsRight app state → IsRight app (go_on state).state
 
-  failure_right : (go_on : SessionState → Flushed) → Keeps go_on → (why : Option (List ℕ)) → Keeps (unless_failed why go_on)
+  failure_right : (go_on : SessionState → FlushResult) → Keeps go_on → (why : Option (List ℕ)) → Keeps (go_on_unless_failed why go_on)
   failure_right go_on k None state right = k state right
   failure_right go_on k (Some why) state right = right
 
-  step_right : (go_on : SessionState → Flushed) → Keeps go_on → (o : Option ℕ) (state : SessionState) → next_waiting app state ≡ o → IsRight app state → IsRight app (flush_step app go_on state o).state
+  step_right : (go_on : SessionState → FlushResult) → Keeps go_on → (o : Option ℕ) (state : SessionState) → next_waiting app state ≡ o → IsRight app state → IsRight app (flush_step app go_on state o).state
   step_right go_on k None state h right = right
   step_right go_on k (Some n) state h right =
       let first : RunResult = make_run app n state in
@@ -184,10 +181,10 @@ module _ (app : Shape) (orderly : IsOrderly app) (covered : (n : ℕ) → is_cov
   thawed_right : (state : SessionState) → IsRight app state → IsRight app (thaw state)
   thawed_right state right = right_thaw app orderly covered state.values 0 state right
 
-  pub right_applied : (ps : List Pair) (state : SessionState) → IsRight app state → IsRight app (applied app ps state).state
+  pub right_applied : (ps : List Pair) (state : SessionState) → IsRight app state → IsRight app (flush_with_pairs app ps state).state
   right_applied ps state right = right_flush (apply_pairs app ps (thaw state)) (pairs_right ps (thaw state) (thawed_right state right))
 
-  after_right : (t : ℕ) (o : Outcome) (after : AfterEnd) (answer : Ended) (state : SessionState) → IsRight app state → IsRight app (shown_after app t o after answer state)
+  after_right : (t : ℕ) (o : Outcome) (after : AfterEnd) (answer : Ended) (state : SessionState) → IsRight app state → IsRight app (with_end_shown app t o after answer state)
   after_right t o after Quiet state right = right_board app orderly covered (see_task app t (ended_view o) state) t after.board (right_change app orderly covered state (first_task app + t) (Task (ended_view o)) right)
   after_right t o after (Next job) state right =
       right_board app orderly covered (see_task app t view.Running (see_task app t (ended_view o) state)) t after.board
@@ -197,7 +194,7 @@ module _ (app : Shape) (orderly : IsOrderly app) (covered : (n : ℕ) → is_cov
   running_right : (t : ℕ) (o : Option Invocation) (state : SessionState) → IsRight app state → IsRight app (end_running app t o state)
   running_right t None state right = right
   running_right t (Some running) state right =
-      after_right t (task_outcome app t running.args) (ended t running.number (board_at state.boards t)) (ended t running.number (board_at state.boards t)).answer state right
+      after_right t (task_outcome app t running.args) (end_result t running.number (board_at state.boards t)) (end_result t running.number (board_at state.boards t)).answer state right
 
   pub right_ended : (t : ℕ) (state : SessionState) → IsRight app state → IsRight app (flush app (end_task app t (thaw state))).state
   right_ended t state right = right_flush (end_task app t (thaw state)) (running_right t (board_at (thaw state).boards t).running (thaw state) (thawed_right state right))
@@ -273,5 +270,5 @@ module _ (app : Shape) (orderly : IsOrderly app) (covered : (n : ℕ) → is_cov
       let own : reader_state state n ≡ kept.0 = ap (λ o. unwrap_or o first_reader) kept.1 in
       let quiet : is_waiting i (reader_state state n) ≡ false = ap (is_waiting i) own ∙ settled app state none n i kept.0 is kept.1 in
       let alive : is_alive (reader_state state n) ≡ true = wanted_alive (is_wanted i (reader_state state n)) (is_alive (reader_state state n)) wanted quiet in
-      right.told.at n i is output alive
+      right.last.at n i is output alive
       ∙ ap (λ (e : Evaluation). Some e.outcome) (sym (reader_fresh app orderly state right.sound n i is (ap (λ b. b || is_output i) (no_expression i output) ∙ output) alive))

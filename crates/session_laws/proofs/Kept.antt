@@ -12,7 +12,7 @@ use Rattle.session_model.specs.State.{SessionState, reader_state, is_alive}
 use Rattle.app_tree.specs.Trace.{Every, OfRead, EveryRead}
 use Rattle.app_laws.specs.Orderly.{ReadsBelow, IsOrderly, reads_in_node}
 use Rattle.app_laws.specs.Recorded.{recorded}
-use Rattle.session_laws.specs.Now.{kept_by, open_sites, sites_now, known_now, evaluation_now, trace, open_answers}
+use Rattle.session_laws.specs.Now.{kept_site, open_sites, sites_now, known_now, evaluation_now, trace, open_answers}
 use Rattle.app_laws.proofs.Repeating.{Again, IsKept, node_repeats}
 use Rattle.app_laws.proofs.WhatIsAsked.{every_map, every_all, reads_map, if_true}
 use Rattle.app_laws.proofs.KnownLists.{get_in, known_is, same_evaluation}
@@ -37,7 +37,7 @@ module _ (app : Shape) (orderly : IsOrderly app) (M : SessionState) (n : ℕ) (i
     abbrev K : List Known
     K = known_now app M
 
-    now_kept : sites_now app N n ≡ kept_by (reader_state N n)
+    now_kept : sites_now app N n ≡ kept_site (reader_state N n)
     now_kept = alive_now app n (reader_state N n) alive
 
     was_open : sites_now app M n ≡ open_sites app M n
@@ -60,7 +60,7 @@ module _ (app : Shape) (orderly : IsOrderly app) (M : SessionState) (n : ℕ) (i
       open_below = record { read = answer_to app M.values L; site = open_sites app M n }
 
       abbrev kept_below : Answers
-      kept_below = record { read = answer_to app M.values L; site = kept_by (reader_state N n) }
+      kept_below = record { read = answer_to app M.values L; site = kept_site (reader_state N n) }
 
       as_traced : evaluate_node (reader app n) open_below ≡ trace app M n
       as_traced =
@@ -90,11 +90,11 @@ module _ (app : Shape) (orderly : IsOrderly app) (M : SessionState) (n : ℕ) (i
       kept_same = same_by app M N values at_each
 
       -- ---- what reader n gives now is what its run gave
-      now_again : (P : Read → Type 0) → Again (open_answers app M n) (record { read = (open_answers app M n).read; site = kept_by (reader_state N n) }) P (trace app M n)
-          (evaluate_node (reader app n) (record { read = (open_answers app M n).read; site = kept_by (reader_state N n) }))
+      now_again : (P : Read → Type 0) → Again (open_answers app M n) (record { read = (open_answers app M n).read; site = kept_site (reader_state N n) }) P (trace app M n)
+          (evaluate_node (reader app n) (record { read = (open_answers app M n).read; site = kept_site (reader_state N n) }))
       now_again P = kept_again app orderly M n i is (reader_state N n) kept (open_answers app M n).read P (all_alike (open_answers app M n).read (trace app M n).asked)
 
-      now_is : evaluation_now app N n ≡ evaluate_node (reader app n) (record { read = (open_answers app M n).read; site = kept_by (reader_state N n) })
+      now_is : evaluation_now app N n ≡ evaluate_node (reader app n) (record { read = (open_answers app M n).read; site = kept_site (reader_state N n) })
       now_is =
           ap (λ v. evaluate_node (reader app n) (record { read = answer_to app v (known_now app N); site = sites_now app N n })) values
           ∙ ap (λ l. evaluate_node (reader app n) (record { read = answer_to app M.values l; site = sites_now app N n })) kept_same.known

@@ -11,10 +11,10 @@ use Rattle.session_model.specs.declared.state.Dependencies.{Dependencies}
 use Rattle.session_model.specs.declared.state.ReaderState.{ReaderState}
 use Rattle.session_model.specs.State.{SessionState, reader_state, with_reader, with_sources, has_run, is_alive}
 use Rattle.session_model.specs.Bodies.{bodies_counted}
-use Rattle.session_model.specs.Reading.{Visited}
-use Rattle.session_model.specs.Run.{ReaderRun, made_stale, at_beginning, forgotten, keeping, read_node, finished, visit_expression, run_reader}
+use Rattle.session_model.specs.Reading.{VisitResult}
+use Rattle.session_model.specs.Run.{ReaderRun, stale_dependencies, reader_as_run_begins, state_as_run_begins, keeping_manner, read_node, finished_run, visit_expression, run_reader}
 use Rattle.app_laws.specs.Orderly.{IsOrderly}
-use Rattle.session_laws.specs.Now.{now_by, open_sites, known_now, evaluation_now, trace, open_answers, walked, run_by_trace}
+use Rattle.session_laws.specs.Now.{site_now, open_sites, known_now, evaluation_now, trace, open_answers, walk_of_trace, run_by_trace}
 use Rattle.session_laws.specs.Sound.{IsSound}
 use Rattle.app_laws.proofs.KnownLists.{get_in}
 use Rattle.session_laws.proofs.States.{state_here, state_there, state_size}
@@ -24,15 +24,15 @@ use Rattle.session_laws.proofs.Running.{no_expression, Leaves, output_run, outpu
 
 -- ---- marks
 
-stale_again : (d : Option Dependencies) → made_stale (made_stale d) ≡ made_stale d
+stale_again : (d : Option Dependencies) → stale_dependencies (stale_dependencies d) ≡ stale_dependencies d
 stale_again None = refl
 stale_again (Some d) = refl
 
-stale_dead : (d : Option Dependencies) → alive_by (made_stale d) ≡ false
+stale_dead : (d : Option Dependencies) → alive_by (stale_dependencies d) ≡ false
 stale_dead None = refl
 stale_dead (Some d) = refl
 
-stale_ran : (d : Option Dependencies) → is_some (made_stale d) ≡ is_some d
+stale_ran : (d : Option Dependencies) → is_some (stale_dependencies d) ≡ is_some d
 stale_ran None = refl
 stale_ran (Some d) = refl
 
@@ -43,7 +43,7 @@ set_twice (z ∷ xs) (suc n) x y = ap (λ l. z ∷ l) (set_twice xs n x y)
 
 module _ (app : Shape) (orderly : IsOrderly app) (covered : (n : ℕ) → is_covered app n ≡ true) (n : ℕ) (i : Node) (is : reader app n ≡ Some i) (output : is_output i ≡ true) (M : SessionState) (sound : IsSound app M) where
   abbrev marked : ReaderState
-  marked = record (reader_state M n) { dependencies = made_stale (reader_state M n).dependencies }
+  marked = record (reader_state M n) { dependencies = stale_dependencies (reader_state M n).dependencies }
 
   -- M with the output marked
   abbrev N : SessionState
@@ -85,17 +85,17 @@ module _ (app : Shape) (orderly : IsOrderly app) (covered : (n : ℕ) → is_cov
   ran_same : has_run (reader_state N n) ≡ has_run (reader_state M n)
   ran_same = ap has_run here ∙ stale_ran (reader_state M n).dependencies
 
-  begins_same : at_beginning (reader_state N n) ≡ at_beginning (reader_state M n)
-  begins_same = ap at_beginning here ∙ ap (λ d. record (reader_state M n) { dependencies = d; isolated = [] }) (stale_again (reader_state M n).dependencies)
+  begins_same : reader_as_run_begins (reader_state N n) ≡ reader_as_run_begins (reader_state M n)
+  begins_same = ap reader_as_run_begins here ∙ ap (λ d. record (reader_state M n) { dependencies = d; isolated = [] }) (stale_again (reader_state M n).dependencies)
 
-  forgets : forgotten n N ≡ forgotten n M
-  forgets = ap (λ r. with_reader n r N) begins_same ∙ ap (λ rs. record M { readers = rs }) (set_twice M.readers n marked (at_beginning (reader_state M n)))
+  forgets : state_as_run_begins n N ≡ state_as_run_begins n M
+  forgets = ap (λ r. with_reader n r N) begins_same ∙ ap (λ rs. record M { readers = rs }) (set_twice M.readers n marked (reader_as_run_begins (reader_state M n)))
 
-  abbrev V : ℕ → SessionState → Visited
+  abbrev V : ℕ → SessionState → VisitResult
   V = visit_expression app
 
   stated_same : run_reader app n N ≡ run_reader app n M
-  stated_same = ap (λ b. finished app n (read_node app V n (not b) (reader app n) (forgotten n N))) ran_same ∙ ap (λ s. finished app n (read_node app V n (not (has_run (reader_state M n))) (reader app n) s)) forgets
+  stated_same = ap (λ b. finished_run app n (read_node app V n (not b) (reader app n) (state_as_run_begins n N))) ran_same ∙ ap (λ s. finished_run app n (read_node app V n (not (has_run (reader_state M n))) (reader app n) s)) forgets
 
   site_same : open_sites app N n ≡ open_sites app M n
   site_same = funext (λ s. ap (λ b. if b then None else first_sites app n s) ran_same)
@@ -108,9 +108,9 @@ module _ (app : Shape) (orderly : IsOrderly app) (covered : (n : ℕ) → is_cov
 
   by_trace_same : run_by_trace app V n N ≡ run_by_trace app V n M
   by_trace_same = (λ j. record {
-    state = with_sources n (sources_of_reads app (same.known j) [] (traced_same j).outside) (walked (keeping V n) (site_same j) (traced_same j).asked (forgets j)).state;
+    state = with_sources n (sources_of_reads app (same.known j) [] (traced_same j).outside) (walk_of_trace (keeping_manner V n) (site_same j) (traced_same j).asked (forgets j)).state;
     outcome = (traced_same j).outcome;
-    bodies = (walked (keeping V n) (site_same j) (traced_same j).asked (forgets j)).bodies + bodies_counted (reader app n) (answers_same j);
+    bodies = (walk_of_trace (keeping_manner V n) (site_same j) (traced_same j).asked (forgets j)).bodies + bodies_counted (reader app n) (answers_same j);
   })
 
   -- the run of the output, alive or not, is its run by its trace
@@ -130,4 +130,4 @@ module _ (app : Shape) (orderly : IsOrderly app) (covered : (n : ℕ) → is_cov
   pub other_output_gives : (j : ℕ) (k : Node) → j ≢ n → reader app j ≡ Some k → is_output k ≡ true → evaluation_now app (run_reader app n M).state j ≡ evaluation_now app M j
   other_output_gives j k d js o =
       let own : reader_state (run_reader app n M).state j ≡ reader_state M j = leaves.others j (ap is_expression_at js ∙ no_expression k o) d ∙ there j d in
-      evaluation_same app (same_trans app same leaves.same) j (ap (now_by app j) own)
+      evaluation_same app (same_trans app same leaves.same) j (ap (site_now app j) own)

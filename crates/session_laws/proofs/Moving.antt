@@ -8,9 +8,9 @@ use Rattle.app_tree.specs.Numbering.{reader}
 use Rattle.app_tree.specs.Fresh.{is_expression_at}
 use Rattle.session_model.specs.declared.state.ReaderState.{ReaderState}
 use Rattle.session_model.specs.State.{SessionState, reader_state, with_reader, is_alive}
-use Rattle.session_model.specs.Reading.{Visited}
+use Rattle.session_model.specs.Reading.{VisitResult}
 use Rattle.app_laws.specs.Orderly.{IsOrderly}
-use Rattle.session_laws.specs.Now.{now_by}
+use Rattle.session_laws.specs.Now.{site_now}
 use Rattle.session_laws.specs.Sound.{IsSound}
 use Rattle.session_laws.proofs.States.{state_here, state_there, state_size}
 use Rattle.session_laws.proofs.Staying.{Alike, alike_eq, alive_by, dead_now, Same, same_refl, same_trans, StaysAt, stays_at, same_by, KeepsAlive, sound_stays}
@@ -94,7 +94,7 @@ module _ (app : Shape) where
       at_each : (m : ℕ) → StaysAt app N O m
       at_each m = elim (eqb_tells m n) [
         | inl p ↦ subst (StaysAt app N O) (sym p.1) (stays_at app N O n (dead_now app n (reader_state N n) (reader_state O n) deps_here dead))
-        | inr p ↦ stays_at app N O m (ap (now_by app m) (there m p.1))
+        | inr p ↦ stays_at app N O m (ap (site_now app m) (there m p.1))
       ]
 
       pub dead_same : Same app N O
@@ -137,5 +137,5 @@ module _ (app : Shape) where
     pub sound : IsSound app O
     pub alive : is_alive (reader_state O m) ≡ true
 
-  abbrev pub Good : ℕ → (ℕ → SessionState → Visited) → Type 0
+  abbrev pub Good : ℕ → (ℕ → SessionState → VisitResult) → Type 0
   Good k visit = (m : ℕ) → m < k → is_expression_at (reader app m) ≡ true → (N : SessionState) → IsSound app N → Visits k m N (visit m N).state

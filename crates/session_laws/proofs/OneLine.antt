@@ -8,9 +8,10 @@ use Rattle.session_model.specs.declared.event.Event.{Event}
 use Rattle.session_model.specs.declared.event.Event.TheVariants.{Text, TaskEnd, End}
 use Rattle.session_model.specs.Alone.{Ending, ending, state_after}
 use Rattle.session_model.specs.WrittenLines.{send_lines}
-use Rattle.session_model.specs.Transcript.{session_limit, Line, recv, ends, closes, Open, opened, is_over, session_of, with_session, step_by, step, done, takes, still_open, open_or_new, taken_by_open, running_ends, task_ends, line_taken, Replayed, closed_by, goes_by, added_texts, with_event, ending_text, over_line}
+use Rattle.session_model.specs.Transcript.{Line, recv, ends, closes, Open, new_session, is_over, session_of, with_session, step_by, step, done, takes, still_open, open_or_new, taken_by_open, running_ends, task_ends, line_taken, ReplayResult, closing_step, replay_after_line, added_texts, with_event, ending_text, over_line}
 use Rattle.session_model.specs.Journal.{is_full}
-use Rattle.session_laws.specs.Apart.{is_said_to, just, last_line, IsOfLines}
+use Rattle.session_laws.specs.Apart.{is_said_to, session_list, last_line, IsOfLines}
+use Rattle.session_model.specs.declared.limits.TheConstants.{SESSION_LIMIT}
 
 -- ---- the sessions of one label
 
@@ -90,7 +91,7 @@ label_kept app event s = by (is_full s.journal)
     by true = refl
     by false = refl
 
-pub closed_label : (app : Shape) (s : Open) (over : Bool) → (closed_by over app s).session.label ≡ s.label
+pub closed_label : (app : Shape) (s : Open) (over : Bool) → (closing_step over app s).session.label ≡ s.label
 closed_label app s true = refl
 closed_label app s false = label_kept app End s
 
@@ -114,7 +115,7 @@ step_lines app event s = step_lines_by (is_full s.journal) app event s
 pub found_lines : (app : Shape) (event : Event) (s : Open) (label : List ℕ) → s.label ≡ label → IsOfLines (record { label = label; bytes = (step app event s).output })
 found_lines app event s label same = subst (λ (l : List ℕ). IsOfLines (record { label = l; bytes = (step app event s).output })) same (step_lines app event s)
 
-pub closing_lines : (app : Shape) (s : Open) (over : Bool) → IsOfLines (record { label = s.label; bytes = (closed_by over app s).output })
+pub closing_lines : (app : Shape) (s : Open) (over : Bool) → IsOfLines (record { label = s.label; bytes = (closing_step over app s).output })
 closing_lines app s true = record { texts = []; end = None; lines = refl }
 closing_lines app s false = step_lines app End s
 
@@ -128,7 +129,7 @@ pub record IsTaken (app : Shape) (k : ℕ) (sessions : List Open) (said : Option
   pub said_to : (other : List ℕ) → is_said_to other said ≡ bytes_eq other label
   pub own : session.label ≡ label
   pub not_over : is_over app session ≡ false
-  pub was : unwrap_or (session_of label sessions) (opened label) ≡ session
+  pub was : unwrap_or (session_of label sessions) (new_session label) ≡ session
   pub is : line_taken app k sessions said ≡ takes event session
   pub is_alone : (j : ℕ) → line_taken app j (sessions_for label sessions) said ≡ takes event session
 
@@ -136,7 +137,7 @@ pub record IsTaken (app : Shape) (k : ℕ) (sessions : List Open) (said : Option
 record IsOpenAlone (app : Shape) (sessions : List Open) (label : List ℕ) (s : Open) (there : Option Open) : Type 0 where
   own : s.label ≡ label
   not_over : is_over app s ≡ false
-  was : unwrap_or (session_of label sessions) (opened label) ≡ s
+  was : unwrap_or (session_of label sessions) (new_session label) ≡ s
   is : there ≡ Some s
 
 module _ (app : Shape) (sessions : List Open) (label : List ℕ) (s : Open) where
@@ -148,7 +149,7 @@ module _ (app : Shape) (sessions : List Open) (label : List ℕ) (s : Open) wher
       record {
         own = ap (λ (o : Open). o.label) (sym same) ∙ found_label label sessions found at;
         not_over = ap (is_over app) (sym same) ∙ over;
-        was = ap (λ o. unwrap_or o (opened label)) at ∙ same;
+        was = ap (λ o. unwrap_or o (new_session label)) at ∙ same;
         is = ap (still_open app) (same_session label sessions ∙ at) ∙ ap (λ b. if b then None else Some found) over ∙ ap Some same;
       }
 
@@ -157,15 +158,15 @@ module _ (app : Shape) (sessions : List Open) (label : List ℕ) (s : Open) wher
   open_alone None at e = absurd cc
   open_alone (Some found) at e = found_open found at (is_over app found) refl e
 
-  new_alone : (full : Bool) → session_of label sessions ≡ None → (if full then None else Some (opened label)) ≡ Some s
+  new_alone : (full : Bool) → session_of label sessions ≡ None → (if full then None else Some (new_session label)) ≡ Some s
       → IsOpenAlone app sessions label s (open_or_new app label (sessions_for label sessions) (session_of label (sessions_for label sessions)))
   new_alone true none e = absurd cc
   new_alone false none e =
-      let same : opened label ≡ s = cc in
+      let same : new_session label ≡ s = cc in
       record {
         own = ap (λ (o : Open). o.label) (sym same);
         not_over = ap (is_over app) (sym same);
-        was = ap (λ o. unwrap_or o (opened label)) none ∙ same;
+        was = ap (λ o. unwrap_or o (new_session label)) none ∙ same;
         is = ap (open_or_new app label (sessions_for label sessions)) (same_session label sessions ∙ none)
             ∙ ap (λ (l : List Open). open_or_new app label l None) (none_for label sessions none)
             ∙ ap Some same;
@@ -173,7 +174,7 @@ module _ (app : Shape) (sessions : List Open) (label : List ℕ) (s : Open) wher
 
   open_or_new_alone : (found : Option Open) → session_of label sessions ≡ found → open_or_new app label sessions found ≡ Some s
       → IsOpenAlone app sessions label s (open_or_new app label (sessions_for label sessions) (session_of label (sessions_for label sessions)))
-  open_or_new_alone None at e = new_alone (nat_le session_limit (length sessions)) at e
+  open_or_new_alone None at e = new_alone (nat_le SESSION_LIMIT (length sessions)) at e
   open_or_new_alone (Some found) at e =
       let there = found_open found at (is_over app found) refl e in
       let still : open_or_new app label (sessions_for label sessions) (Some found) ≡ still_open app (session_of label (sessions_for label sessions)) = ap (still_open app) (sym (same_session label sessions ∙ at)) in
@@ -184,9 +185,9 @@ module _ (app : Shape) (sessions : List Open) (label : List ℕ) (s : Open) wher
         is = ap (open_or_new app label (sessions_for label sessions)) (same_session label sessions ∙ at) ∙ still ∙ there.is;
       }
 
-module _ (app : Shape) (k : ℕ) (sessions : List Open) (next : List Open → Replayed) where
+module _ (app : Shape) (k : ℕ) (sessions : List Open) (next : List Open → ReplayResult) where
   recv_taken : (label t : List ℕ) (there : Option Open) → open_or_new app label sessions (session_of label sessions) ≡ there
-      → (goes_by app sessions (taken_by_open k (Text t) there) next).end ≡ done → IsTaken app k sessions (Some (recv label t))
+      → (replay_after_line app sessions (taken_by_open k (Text t) there) next).end ≡ done → IsTaken app k sessions (Some (recv label t))
   recv_taken label t None is e = absurd cc
   recv_taken label t (Some s) is e =
       let there = open_or_new_alone app sessions label s (session_of label sessions) refl is in
@@ -203,7 +204,7 @@ module _ (app : Shape) (k : ℕ) (sessions : List Open) (next : List Open → Re
       }
 
   closes_taken : (label : List ℕ) (there : Option Open) → still_open app (session_of label sessions) ≡ there
-      → (goes_by app sessions (taken_by_open k End there) next).end ≡ done → IsTaken app k sessions (Some (closes label))
+      → (replay_after_line app sessions (taken_by_open k End there) next).end ≡ done → IsTaken app k sessions (Some (closes label))
   closes_taken label None is e = absurd cc
   closes_taken label (Some s) is e =
       let there = open_alone app sessions label s (session_of label sessions) refl is in
@@ -224,7 +225,7 @@ module _ (app : Shape) (k : ℕ) (sessions : List Open) (next : List Open → Re
   running t s = running_number (board_at (state_after app s.journal).boards t)
 
   number_taken : (label : List ℕ) (t : ℕ) (s : Open) → still_open app (session_of label sessions) ≡ Some s → (number : Option ℕ) → running t s ≡ number
-      → (goes_by app sessions (running_ends k t s number) next).end ≡ done → IsTaken app k sessions (Some (ends label t))
+      → (replay_after_line app sessions (running_ends k t s number) next).end ≡ done → IsTaken app k sessions (Some (ends label t))
   number_taken label t s is None runs e = absurd cc
   number_taken label t s is (Some number) runs e =
       let there = open_alone app sessions label s (session_of label sessions) refl is in
@@ -241,12 +242,12 @@ module _ (app : Shape) (k : ℕ) (sessions : List Open) (next : List Open → Re
       }
 
   ends_taken : (label : List ℕ) (t : ℕ) (there : Option Open) → still_open app (session_of label sessions) ≡ there
-      → (goes_by app sessions (task_ends app k t there) next).end ≡ done → IsTaken app k sessions (Some (ends label t))
+      → (replay_after_line app sessions (task_ends app k t there) next).end ≡ done → IsTaken app k sessions (Some (ends label t))
   ends_taken label t None is e = absurd cc
   ends_taken label t (Some s) is e = number_taken label t s is (running t s) refl e
 
   -- so it is of each line behind which a replay is done
-  pub is_taken : (said : Option Line) → (goes_by app sessions (line_taken app k sessions said) next).end ≡ done → IsTaken app k sessions said
+  pub is_taken : (said : Option Line) → (replay_after_line app sessions (line_taken app k sessions said) next).end ≡ done → IsTaken app k sessions said
   is_taken None e = absurd cc
   is_taken (Some (recv label t)) e = recv_taken label t (open_or_new app label sessions (session_of label sessions)) refl e
   is_taken (Some (ends label t)) e = ends_taken label t (still_open app (session_of label sessions)) refl e
@@ -255,29 +256,29 @@ module _ (app : Shape) (k : ℕ) (sessions : List Open) (next : List Open → Re
 -- ---- each label has one session
 
 abbrev pub HaveOneEach : List Open → Type 0
-HaveOneEach sessions = (label : List ℕ) → sessions_for label sessions ≡ just (session_of label sessions)
+HaveOneEach sessions = (label : List ℕ) → sessions_for label sessions ≡ session_list (session_of label sessions)
 
 -- so it is where those of a label are one that has the label, or none
-pub one_of_label : (label : List ℕ) (sessions : List Open) (one : Option Open) → sessions_for label sessions ≡ just one → ((s : Open) → one ≡ Some s → s.label ≡ label)
-    → sessions_for label sessions ≡ just (session_of label sessions)
-one_of_label label sessions one is own = is ∙ ap just (sym (sym (same_session label sessions) ∙ ap (session_of label) is ∙ found one own))
+pub one_of_label : (label : List ℕ) (sessions : List Open) (one : Option Open) → sessions_for label sessions ≡ session_list one → ((s : Open) → one ≡ Some s → s.label ≡ label)
+    → sessions_for label sessions ≡ session_list (session_of label sessions)
+one_of_label label sessions one is own = is ∙ ap session_list (sym (sym (same_session label sessions) ∙ ap (session_of label) is ∙ found one own))
   where
-    found : (o : Option Open) → ((s : Open) → o ≡ Some s → s.label ≡ label) → session_of label (just o) ≡ o
+    found : (o : Option Open) → ((s : Open) → o ≡ Some s → s.label ≡ label) → session_of label (session_list o) ≡ o
     found None own = refl
     found (Some s) own = ap (λ b. if b then Some s else None) (ap (bytes_eq label) (own s refl) ∙ itself label)
 
-pub moved_one : (s : Open) (there : Option Open) → ((o : Open) → there ≡ Some o → o.label ≡ s.label) → with_session s (just there) ≡ s ∷ []
+pub moved_one : (s : Open) (there : Option Open) → ((o : Open) → there ≡ Some o → o.label ≡ s.label) → with_session s (session_list there) ≡ s ∷ []
 moved_one s None own = refl
 moved_one s (Some o) own = ap (λ b. if b then s ∷ [] else o ∷ s ∷ []) (ap (bytes_eq s.label) (own o refl) ∙ itself s.label)
 
 pub moved_each : (s : Open) (sessions : List Open) → HaveOneEach sessions → HaveOneEach (with_session s sessions)
 moved_each s sessions each label = decide (bytes_eq label s.label) refl
   where
-    decide : (b : Bool) → bytes_eq label s.label ≡ b → sessions_for label (with_session s sessions) ≡ just (session_of label (with_session s sessions))
+    decide : (b : Bool) → bytes_eq label s.label ≡ b → sessions_for label (with_session s sessions) ≡ session_list (session_of label (with_session s sessions))
     decide true b =
         let same : s.label ≡ label = sym (equal label s.label b) in
         let is : sessions_for s.label (with_session s sessions) ≡ s ∷ [] =
         moved_for s sessions ∙ ap (with_session s) (each s.label) ∙ moved_one s (session_of s.label sessions) (found_label s.label sessions) in
-        subst (λ (l : List ℕ). sessions_for l (with_session s sessions) ≡ just (session_of l (with_session s sessions))) same
+        subst (λ (l : List ℕ). sessions_for l (with_session s sessions) ≡ session_list (session_of l (with_session s sessions))) same
         (one_of_label s.label (with_session s sessions) (Some s) is (λ o e. let it : s ≡ o = cc in ap (λ (x : Open). x.label) (sym it)))
     decide false b = one_of_label label (with_session s sessions) (session_of label sessions) (others_for label s sessions b ∙ each label) (found_label label sessions)

@@ -14,12 +14,12 @@ use Rattle.app_tree.specs.Fresh.{Known, known_at, answer_to, evaluate_node, is_e
 use Rattle.task_board.specs.Board.{TaskBoard}
 use Rattle.session_model.specs.declared.state.ReaderState.{ReaderState}
 use Rattle.session_model.specs.State.{SessionState, first_reader, first_readers, first_state, reader_state, with_reader, is_alive}
-use Rattle.session_model.specs.Change.{changed_to, change, thawed, thaw_from}
+use Rattle.session_model.specs.Change.{with_source_value, change, thawed_value, thaw_from}
 use Rattle.session_model.specs.Run.{ReaderRun, run_reader}
 use Rattle.session_model.specs.Flush.{with_last}
 use Rattle.session_model.specs.Tasks.{with_board}
 use Rattle.app_laws.specs.Orderly.{IsOrderly}
-use Rattle.session_laws.specs.Now.{sites_now, known_now, now_by, evaluation_now}
+use Rattle.session_laws.specs.Now.{sites_now, known_now, site_now, evaluation_now}
 use Rattle.session_laws.specs.Sound.{IsSound, IsRight}
 use Rattle.app_laws.proofs.KnownLists.{known_fixed, get_in}
 use Rattle.session_laws.proofs.States.{state_here, state_there, state_size}
@@ -69,10 +69,10 @@ module _ (app : Shape) (orderly : IsOrderly app) (covered : (n : ℕ) → is_cov
     pub right_alike : IsRight app M → ((m : ℕ) (i : Node) → reader app m ≡ Some i → is_output i ≡ true → (reader_state N m).last ≡ (reader_state M m).last) → IsRight app N
     right_alike right last = record {
       sound = sound_alike right.sound;
-      told = record {
+      last = record {
         at = λ m i is o a.
             let same : Alike (reader_state M m) (reader_state N m) = alike m i is (ap (λ b. b || is_output i) (no_expression i o) ∙ o) in
-            last m i is o ∙ right.told.at m i is o (sym (alike_alive same) ∙ a) ∙ ap (λ (e : Evaluation). Some e.outcome) (sym (evaluation_same app alike_same m (alike_now app m same)));
+            last m i is o ∙ right.last.at m i is o (sym (alike_alive same) ∙ a) ∙ ap (λ (e : Evaluation). Some e.outcome) (sym (evaluation_same app alike_same m (alike_now app m same)));
       };
     }
 
@@ -112,22 +112,22 @@ module _ (app : Shape) (orderly : IsOrderly app) (covered : (n : ℕ) → is_cov
   pub right_steps : (k : ℕ) (M N : SessionState) → IsRight app M → Steps app k M N → IsSound app N → IsRight app N
   right_steps k M N right s sound = record {
     sound = sound;
-    told = record {
+    last = record {
       at = λ m i is o a.
           let own : reader_state N m ≡ reader_state M m = s.others m (ap is_expression_at is ∙ no_expression i o) in
-          ap (λ (r : ReaderState). r.last) own ∙ right.told.at m i is o (sym (ap is_alive own) ∙ a) ∙ ap (λ (e : Evaluation). Some e.outcome) (sym (evaluation_same app s.same m (ap (now_by app m) own)));
+          ap (λ (r : ReaderState). r.last) own ∙ right.last.at m i is o (sym (ap is_alive own) ∙ a) ∙ ap (λ (e : Evaluation). Some e.outcome) (sym (evaluation_same app s.same m (ap (site_now app m) own)));
     };
   }
 
   -- ---- changes
-  pub right_changed : (M : SessionState) (s : ℕ) (x : SourceValue) → IsRight app M → IsRight app (changed_to s x M)
+  pub right_changed : (M : SessionState) (s : ℕ) (x : SourceValue) → IsRight app M → IsRight app (with_source_value s x M)
   right_changed M s x right = record {
     sound = changed_sound app orderly covered M right.sound s x;
-    told = record {
+    last = record {
       at = λ m i is o a.
           let was : Unmarked s (reader_state M m) = unmarked s (reader_state M m) (sym (ap is_alive (marked_at s m x M)) ∙ a) in
-          let own : reader_state (changed_to s x M) m ≡ reader_state M m = marked_at s m x M ∙ was.stays in
-          ap (λ (r : ReaderState). r.last) own ∙ right.told.at m i is o was.alive
+          let own : reader_state (with_source_value s x M) m ≡ reader_state M m = marked_at s m x M ∙ was.stays in
+          ap (λ (r : ReaderState). r.last) own ∙ right.last.at m i is o was.alive
           ∙ ap (λ (e : Evaluation). Some e.outcome) (sym (unchanged app orderly covered M right.sound s x m i is (ap (λ b. b || is_output i) (no_expression i o) ∙ o) a));
     };
   }
@@ -137,14 +137,14 @@ module _ (app : Shape) (orderly : IsOrderly app) (covered : (n : ℕ) → is_cov
   either P false M N p q = q
 
   pub sound_change : (M : SessionState) (s : ℕ) (x : SourceValue) → IsSound app M → IsSound app (change s x M)
-  sound_change M s x sound = either (IsSound app) (source_eq (value_at M.values s) x) M (changed_to s x M) sound (changed_sound app orderly covered M sound s x)
+  sound_change M s x sound = either (IsSound app) (source_eq (value_at M.values s) x) M (with_source_value s x M) sound (changed_sound app orderly covered M sound s x)
 
   pub right_change : (M : SessionState) (s : ℕ) (x : SourceValue) → IsRight app M → IsRight app (change s x M)
-  right_change M s x right = either (IsRight app) (source_eq (value_at M.values s) x) M (changed_to s x M) right (right_changed M s x right)
+  right_change M s x right = either (IsRight app) (source_eq (value_at M.values s) x) M (with_source_value s x M) right (right_changed M s x right)
 
   pub right_thaw : (xs : List SourceValue) (s : ℕ) (M : SessionState) → IsRight app M → IsRight app (thaw_from s xs M)
   right_thaw [] s M right = right
-  right_thaw (x ∷ xs) s M right = right_thaw xs (suc s) (change s (thawed x) M) (right_change M s (thawed x) right)
+  right_thaw (x ∷ xs) s M right = right_thaw xs (suc s) (change s (thawed_value x) M) (right_change M s (thawed_value x) right)
 
   -- ---- the run of an output, which becomes its last outcome
   module _ (n : ℕ) (i : Node) (is : reader app n ≡ Some i) (output : is_output i ≡ true) (M : SessionState) (right : IsRight app M) (dead : is_alive (reader_state M n) ≡ false) where
@@ -182,22 +182,22 @@ module _ (app : Shape) (orderly : IsOrderly app) (covered : (n : ℕ) → is_cov
     sound = sound_stays app orderly F O leaves.sound same (state_size F n mine) (λ m h a. alike_alive (alike_at m) ∙ a) (λ m j js e a. alike_at m)
 
     -- another output
-    told_there : (m : ℕ) (j : Node) → reader app m ≡ Some j → is_output j ≡ true → is_alive (reader_state O m) ≡ true → m ≢ n → (reader_state O m).last ≡ Some (evaluation_now app O m).outcome
-    told_there m j js o a d =
+    last_there : (m : ℕ) (j : Node) → reader app m ≡ Some j → is_output j ≡ true → is_alive (reader_state O m) ≡ true → m ≢ n → (reader_state O m).last ≡ Some (evaluation_now app O m).outcome
+    last_there m j js o a d =
         let own : reader_state O m ≡ reader_state M m = state_there F n m mine d ∙ leaves.others m (ap is_expression_at js ∙ no_expression j o) d in
-        ap (λ (r : ReaderState). r.last) own ∙ right.told.at m j js o (sym (ap is_alive own) ∙ a)
-        ∙ ap (λ (e : Evaluation). Some e.outcome) (sym (evaluation_same app (same_trans app leaves.same same) m (ap (now_by app m) own)))
+        ap (λ (r : ReaderState). r.last) own ∙ right.last.at m j js o (sym (ap is_alive own) ∙ a)
+        ∙ ap (λ (e : Evaluation). Some e.outcome) (sym (evaluation_same app (same_trans app leaves.same same) m (ap (site_now app m) own)))
 
-    told_here : (reader_state O n).last ≡ Some (evaluation_now app O n).outcome
-    told_here = ap (λ (r : ReaderState). r.last) here ∙ ap Some (sym leaves.gives) ∙ ap (λ (e : Evaluation). Some e.outcome) (sym (evaluation_same app same n (alike_now app n (alike_at n))))
+    last_here : (reader_state O n).last ≡ Some (evaluation_now app O n).outcome
+    last_here = ap (λ (r : ReaderState). r.last) here ∙ ap Some (sym leaves.gives) ∙ ap (λ (e : Evaluation). Some e.outcome) (sym (evaluation_same app same n (alike_now app n (alike_at n))))
 
     pub right_output : IsRight app O
     right_output = record {
       sound = sound;
-      told = record {
+      last = record {
         at = λ m j js o a. elim (eqb_tells m n) [
-          | inl p ↦ subst (λ z. (reader_state O z).last ≡ Some (evaluation_now app O z).outcome) (sym p.1) told_here
-          | inr p ↦ told_there m j js o a p.1
+          | inl p ↦ subst (λ z. (reader_state O z).last ≡ Some (evaluation_now app O z).outcome) (sym p.1) last_here
+          | inr p ↦ last_there m j js o a p.1
         ];
       };
     }
@@ -215,7 +215,7 @@ module _ (app : Shape) (orderly : IsOrderly app) (covered : (n : ℕ) → is_cov
     gives_there : (m : ℕ) (j : Node) → reader app m ≡ Some j → is_output j ≡ true → m ≢ n → (evaluation_now app O m).outcome ≡ (evaluation_now app M m).outcome
     gives_there m j js o d =
         let own : reader_state O m ≡ reader_state M m = state_there F n m mine d ∙ leaves.others m (ap is_expression_at js ∙ no_expression j o) d in
-        ap (λ (e : Evaluation). e.outcome) (evaluation_same app output_same m (ap (now_by app m) own))
+        ap (λ (e : Evaluation). e.outcome) (evaluation_same app output_same m (ap (site_now app m) own))
 
     -- what an expression gives now is what is known of it now
     expression_gives : (N : SessionState) (m : ℕ) (j : Node) → reader app m ≡ Some j → is_expression j ≡ true → (evaluation_now app N m).outcome ≡ (known_at (known_now app N) m).outcome
@@ -245,5 +245,5 @@ module _ (app : Shape) (orderly : IsOrderly app) (covered : (n : ℕ) → is_cov
   pub right_first : IsRight app (first_state app)
   right_first = record {
     sound = record { size = first_size (readers app); at = λ n i is e a. absurd (not_both (sym (ap is_alive (none_alive (readers app) n)) ∙ a) refl) };
-    told = record { at = λ n i is o a. absurd (not_both (sym (ap is_alive (none_alive (readers app) n)) ∙ a) refl) };
+    last = record { at = λ n i is o a. absurd (not_both (sym (ap is_alive (none_alive (readers app) n)) ∙ a) refl) };
   }

@@ -3,6 +3,7 @@ use Rattle.std.proofs.Common.{◌≡◌, ◌≢◌, inl, inr, ◌≤◌, ◌<◌
 use Rattle.std.specs.Prelude.{⊤, ◌||◌, not}
 use Rattle.std.proofs.lemmas.Bool.Decides.{eqb_tells}
 use Rattle.rx_value.specs.declared.outcome.Outcome.{Outcome}
+use Rattle.rx_value.specs.Results.{choose}
 use Rattle.app_tree.specs.declared.term.Read.{Read}
 use Rattle.app_tree.specs.Tree.{Node, input, value, task, reactive, event, text, plot, observe, on, Shape}
 use Rattle.app_tree.specs.Numbering.{readers, reader, is_expression, is_output, is_evaluated}
@@ -11,12 +12,12 @@ use Rattle.app_tree.specs.Cover.{is_covered}
 use Rattle.app_tree.specs.Fresh.{answer_to, sources_of_read, sources_of_reads, evaluate_node, is_expression_at, fresh_evaluation, fresh_outcome, sources_read, is_among}
 use Rattle.session_model.specs.declared.state.ReaderState.{ReaderState}
 use Rattle.session_model.specs.State.{SessionState, isolated_of, reader_state, with_sources, sources_in, is_alive}
-use Rattle.session_model.specs.Reading.{Visited}
-use Rattle.session_model.specs.Run.{ReaderRun, choose, forgotten, keeping, run_with, run_if_dead, visit_below, visit_expression, run_reader, at_beginning, made_stale}
+use Rattle.session_model.specs.Reading.{VisitResult}
+use Rattle.session_model.specs.Run.{ReaderRun, state_as_run_begins, keeping_manner, run_with, run_if_dead, visit_below, visit_expression, run_reader, reader_as_run_begins, stale_dependencies}
 use Rattle.app_laws.specs.Orderly.{ReadsBelow, bound_of, IsOrderly}
 use Rattle.app_tree.specs.Trace.{EveryRead}
 use Rattle.app_laws.specs.Recorded.{recorded}
-use Rattle.session_laws.specs.Now.{kept_by, open_sites, known_now, evaluation_now, trace, open_answers, walked, run_by_trace}
+use Rattle.session_laws.specs.Now.{kept_site, open_sites, known_now, evaluation_now, trace, open_answers, walk_of_trace, run_by_trace}
 use Rattle.session_model.specs.Bodies.{bodies_counted}
 use Rattle.session_model.specs.Standing.{IsAliveRead}
 use Rattle.session_laws.specs.Sound.{IsSoundAt, IsSound}
@@ -44,14 +45,14 @@ no_expression (observe name priority block) h = refl
 no_expression (on name priority flags e block) h = refl
 
 -- who isn't alive has no more to forget of it
-stale_is : (r : ReaderState) → is_alive r ≡ false → (at_beginning r).dependencies ≡ r.dependencies
+stale_is : (r : ReaderState) → is_alive r ≡ false → (reader_as_run_begins r).dependencies ≡ r.dependencies
 stale_is r dead = by r.dependencies dead
   where
     changed_is : (b : Bool) → not b ≡ false → true ≡ b
     changed_is true h = refl
     changed_is false h = cc
 
-    by : (d : Option Dependencies) → alive_by d ≡ false → made_stale d ≡ d
+    by : (d : Option Dependencies) → alive_by d ≡ false → stale_dependencies d ≡ d
     by None h = refl
     by (Some d) h = (λ j. Some (record { sources = d.sources; changed = changed_is d.changed h j }))
 
@@ -73,7 +74,7 @@ module _ (app : Shape) (orderly : IsOrderly app) where
     pub beyond : (j : ℕ) → k ≤ j → j ≢ n → reader_state F j ≡ reader_state M j
     pub others : (j : ℕ) → is_expression_at (reader app j) ≡ false → j ≢ n → reader_state F j ≡ reader_state M j
 
-  module _ (n : ℕ) (i : Node) (is : reader app n ≡ Some i) (evaluated : is_evaluated i ≡ true) (covered : is_covered app n ≡ true) (visit : ℕ → SessionState → Visited) (good : Good app (bound_of app n i) visit) where
+  module _ (n : ℕ) (i : Node) (is : reader app n ≡ Some i) (evaluated : is_evaluated i ≡ true) (covered : is_covered app n ≡ true) (visit : ℕ → SessionState → VisitResult) (good : Good app (bound_of app n i) visit) where
     abbrev k : ℕ
     k = bound_of app n i
 
@@ -92,12 +93,12 @@ module _ (app : Shape) (orderly : IsOrderly app) where
       Mid = IsMid app orderly k visit good M n inside dead apart
 
       abbrev emptied : ReaderState
-      emptied = at_beginning (reader_state M n)
+      emptied = reader_as_run_begins (reader_state M n)
 
       was_stale : emptied.dependencies ≡ (reader_state M n).dependencies
       was_stale = stale_is (reader_state M n) dead
 
-      pub starts : Mid (forgotten n M)
+      pub starts : Mid (state_as_run_begins n M)
       starts = record {
         sound = dead_sound app orderly M n inside dead emptied was_stale sound;
         moves = dead_moves app orderly M n inside dead emptied was_stale k M dead refl refl (moves_refl k n M);
@@ -112,14 +113,14 @@ module _ (app : Shape) (orderly : IsOrderly app) where
       pub low : EveryRead (ReadsBelow app k) e.asked
       low = asked_low app orderly n i is a
 
-      abbrev V : Visited
-      V = walked (keeping visit n) a.site e.asked (forgotten n M)
+      abbrev V : VisitResult
+      V = walk_of_trace (keeping_manner visit n) a.site e.asked (state_as_run_begins n M)
 
       abbrev pub W : SessionState
       W = V.state
 
-      pub walks : Walked app orderly k visit good M n inside dead apart a.site e.asked (forgotten n M) W
-      walks = walk app orderly k visit good M n inside dead apart a.site e.asked low (forgotten n M) starts
+      pub walks : Walked app orderly k visit good M n inside dead apart a.site e.asked (state_as_run_begins n M) W
+      walks = walk app orderly k visit good M n inside dead apart a.site e.asked low (state_as_run_begins n M) starts
 
       same : Same app M W
       same = walks.mid.moves.same
@@ -141,10 +142,10 @@ module _ (app : Shape) (orderly : IsOrderly app) where
       alike = reads_zip (ReadsBelow app k) (IsAliveRead W) (λ r. a.read r ≡ tell r)
           (λ r h x. answers_same r ∙ fresh_read app orderly W k (λ m b f y. expression_fresh app orderly W walks.mid.sound m f y) r h x) e.asked low walks.alive
 
-      again : Again a (record { read = tell; site = kept_by (reader_state W n) }) (λ r. ⊤) e (evaluate_node (reader app n) (record { read = tell; site = kept_by (reader_state W n) }))
+      again : Again a (record { read = tell; site = kept_site (reader_state W n) }) (λ r. ⊤) e (evaluate_node (reader app n) (record { read = tell; site = kept_site (reader_state W n) }))
       again = kept_again app orderly M n i is (reader_state W n) kept tell (λ r. ⊤) alike
 
-      fresh_is : fresh_evaluation app W.values (isolated_of W) n ≡ evaluate_node (reader app n) (record { read = tell; site = kept_by (reader_state W n) })
+      fresh_is : fresh_evaluation app W.values (isolated_of W) n ≡ evaluate_node (reader app n) (record { read = tell; site = kept_site (reader_state W n) })
       fresh_is = ap (λ (s : ℕ → Option Outcome). evaluate_node (reader app n) (record { read = tell; site = s })) (funext (kept_is W n))
 
       pub outcome_is : fresh_outcome app W.values (isolated_of W) n ≡ e.outcome
@@ -166,8 +167,8 @@ module _ (app : Shape) (orderly : IsOrderly app) where
           (outside_of app orderly n i is a (λ r. sources_of_read app (fresh_known app orderly W) r ≡ sources_of_read app (known_now app M) r)
           (reads_zip (ReadsBelow app k) (IsAliveRead W) (λ r. sources_of_read app (fresh_known app orderly W) r ≡ sources_of_read app (known_now app M) r) reach_same e.asked low walks.alive)) []
 
-      reading : IsWalked app orderly k visit good M n inside dead apart i is evaluated (orderly.reads n i is) covered (forgotten n M)
-      reading = node_walked app orderly k visit good M n inside dead apart i is evaluated (orderly.reads n i is) covered (forgotten n M) starts
+      reading : IsWalked app orderly k visit good M n inside dead apart i is evaluated (orderly.reads n i is) covered (state_as_run_begins n M)
+      reading = node_walked app orderly k visit good M n inside dead apart i is evaluated (orderly.reads n i is) covered (state_as_run_begins n M) starts
 
       -- the run as it is stated is the run by its trace
       pub run_is : run_with app visit n M ≡ run_by_trace app visit n M
@@ -289,9 +290,9 @@ module _ (app : Shape) (orderly : IsOrderly app) where
     visits_good zero m h x N sound = absurd (omega (h, arith))
     visits_good (suc k) m h x N sound = elim (eqb_tells m k) [
       | inl p ↦ subst (λ z. Visits app (suc k) z N (visit_below app (suc k) m N).state) (sym p.1)
-          (subst (λ (v : Visited). Visits app (suc k) k N v.state) (sym (ap (λ b. choose b (λ s. run_if_dead (is_alive (reader_state s k)) (run_with app (visit_below app k) k) s) (visit_below app k m) N) p.0))
+          (subst (λ (v : VisitResult). Visits app (suc k) k N v.state) (sym (ap (λ b. choose b (λ s. run_if_dead (is_alive (reader_state s k)) (run_with app (visit_below app k) k) s) (visit_below app k m) N) p.0))
           (at_number k (visits_good k) (subst (λ z. is_expression_at (reader app z) ≡ true) p.1 x) N sound (is_alive (reader_state N k)) refl))
-      | inr p ↦ subst (λ (v : Visited). Visits app (suc k) m N v.state) (sym (ap (λ b. choose b (λ s. run_if_dead (is_alive (reader_state s k)) (run_with app (visit_below app k) k) s) (visit_below app k m) N) p.0))
+      | inr p ↦ subst (λ (v : VisitResult). Visits app (suc k) m N v.state) (sym (ap (λ b. choose b (λ s. run_if_dead (is_alive (reader_state s k)) (run_with app (visit_below app k) k) s) (visit_below app k m) N) p.0))
           (visit_up k m N (visit_below app k m N).state (visits_good k m (let d = p.1 in omega (h, d, arith)) x N sound))
     ]
 

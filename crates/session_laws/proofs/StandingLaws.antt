@@ -10,7 +10,7 @@ use Rattle.session_model.specs.declared.state.ReaderState.{ReaderState}
 use Rattle.session_model.specs.State.{SessionState, first_reader, first_readers, first_state, isolated_of, reader_state, is_alive}
 use Rattle.session_model.specs.Bodies.{bodies_counted}
 use Rattle.session_model.specs.Alone.{state_after}
-use Rattle.session_model.specs.Standing.{Dependence, never_run, stale, alive, is_live, dependence_by, dependence_of, KeptReader, first_kept, kept_reader, first_kept_readers, first_session, IsSameDependence, IsBehind, KeptOutput, first_output, first_outputs, fresh_answers, missing_below, kept_from, keeping_all, outputs_of}
+use Rattle.session_model.specs.Standing.{Dependence, never_run, stale, alive, is_live, dependence_by, dependence_of, KeptReader, first_kept, kept_reader, first_kept_readers, first_session, IsSameDependence, IsBehind, KeptOutput, first_output, first_outputs, fresh_answers, missing_below, kept_from, session_keeping_all, outputs_of}
 use Rattle.session_laws.specs.StandingLaws.{JournalIsConsistent, FirstStands, KeepingAllStands, KeepingWhollyStands, NoneIsMissing}
 use Rattle.app_laws.proofs.KnownLists.{get_in}
 use Rattle.session_laws.proofs.Proper.{orderly, covered}
@@ -70,8 +70,8 @@ none_kept app state m (q ∷ rs) (suc n) h = none_kept app state (suc m) rs n h
 module _ (app : Shape) (state : SessionState) where
   -- what it has of a reader is what the state has of it
   record IsKept (n : ℕ) : Type 0 where
-    dependence : (kept_reader (keeping_all app state) n).dependence ≡ dependence_of (reader_state state n).dependencies
-    isolated : (kept_reader (keeping_all app state) n).isolated ≡ (reader_state state n).isolated
+    dependence : (kept_reader (session_keeping_all app state) n).dependence ≡ dependence_of (reader_state state n).dependencies
+    isolated : (kept_reader (session_keeping_all app state) n).isolated ≡ (reader_state state n).isolated
 
   kept_by : (n : ℕ) (o : Option ReaderState) → slice_get state.readers n ≡ o → IsKept n
   kept_by n None h = record {
@@ -86,7 +86,7 @@ module _ (app : Shape) (state : SessionState) where
   kept_is : (n : ℕ) → IsKept n
   kept_is n = kept_by n (slice_get state.readers n) refl
 
-  kept_outcome : (n : ℕ) → n < length state.readers → (kept_reader (keeping_all app state) n).outcome ≡ fresh_outcome app state.values (isolated_of state) n
+  kept_outcome : (n : ℕ) → n < length state.readers → (kept_reader (session_keeping_all app state) n).outcome ≡ fresh_outcome app state.values (isolated_of state) n
   kept_outcome n h =
       let r = get_some state.readers n h in
       ap (λ x. (unwrap_or x first_kept).outcome) (kept_there app state 0 state.readers n r.0 r.1) ∙ ap (fresh_outcome app state.values (isolated_of state)) (zero_front n)
@@ -180,7 +180,7 @@ first_stands app p = record {
     not_live : (n : ℕ) → is_live (kept_reader (first_session app) n).dependence ≡ true → ⊥
     not_live n a = absurd (false≢true (sym (ap (λ (r : KeptReader). is_live r.dependence) (kept n)) ∙ a))
 
-none_missing : (app : Shape) (state : SessionState) (n : ℕ) → missing_below app (keeping_all app state) state n ≡ 0
+none_missing : (app : Shape) (state : SessionState) (n : ℕ) → missing_below app (session_keeping_all app state) state n ≡ 0
 none_missing app state zero = refl
 none_missing app state (suc n) =
     (λ j. none_missing app state n j + (if is_alive (reader_state state n) && not (same n j) then bodies_counted (reader app n) (fresh_answers app state n) else 0))
@@ -190,7 +190,7 @@ none_missing app state (suc n) =
     never true = refl
     never false = refl
 
-    same : (n : ℕ) → is_live (kept_reader (keeping_all app state) n).dependence ≡ is_alive (reader_state state n)
+    same : (n : ℕ) → is_live (kept_reader (session_keeping_all app state) n).dependence ≡ is_alive (reader_state state n)
     same n = ap is_live (kept_is app state n).dependence ∙ live_is (reader_state state n)
 
 pub none_is_missing : NoneIsMissing

@@ -5,7 +5,7 @@ use Rattle.rx_value.specs.declared.outcome.Outcome.TheVariants as o
 use Rattle.app_tree.specs.Fresh.{site_outcome, kept_sites}
 use Rattle.session_model.specs.declared.state.ReaderState.{ReaderState}
 use Rattle.session_model.specs.State.{SessionState, first_reader, isolated_of, reader_state, with_reader}
-use Rattle.session_laws.specs.Now.{kept_by}
+use Rattle.session_laws.specs.Now.{kept_site}
 
 set_here : {A : Type 0} (xs : List A) (n : ℕ) (x : A) → n < length xs → slice_get (slice_set xs n x) n ≡ Some x
 set_here [] n x h = absurd (omega (h, arith))
@@ -39,5 +39,5 @@ get_mapped f d (x ∷ xs) zero = refl
 get_mapped f d (x ∷ xs) (suc n) = get_mapped f d xs n
 
 -- the sites that a reader keeps, by what is kept for it
-pub kept_is : (state : SessionState) (n s : ℕ) → kept_sites (isolated_of state) n s ≡ kept_by (reader_state state n) s
+pub kept_is : (state : SessionState) (n s : ℕ) → kept_sites (isolated_of state) n s ≡ kept_site (reader_state state n) s
 kept_is state n s = ap (λ l. Some (unwrap_or (site_outcome s l) o.Stop)) (get_mapped (λ (r : ReaderState). r.isolated) first_reader state.readers n)

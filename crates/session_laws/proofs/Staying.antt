@@ -16,7 +16,7 @@ use Rattle.session_model.specs.State.{SessionState, reader_state, sources_in, is
 use Rattle.app_tree.specs.Trace.{Every, EveryRead}
 use Rattle.app_laws.specs.Orderly.{ReadsBelow, bound_of, IsOrderly}
 use Rattle.app_laws.specs.Recorded.{recorded}
-use Rattle.session_laws.specs.Now.{kept_by, open_by, now_by, open_sites, sites_now, known_now, evaluation_now, trace, open_answers}
+use Rattle.session_laws.specs.Now.{kept_site, open_site, site_now, open_sites, sites_now, known_now, evaluation_now, trace, open_answers}
 use Rattle.session_model.specs.Standing.{IsAliveRead}
 use Rattle.session_laws.specs.Sound.{IsSoundAt, IsSound}
 use Rattle.app_laws.proofs.Repeating.{Again, IsKept, node_repeats}
@@ -48,23 +48,23 @@ alive_by d = unwrap_or (option_map (λ d. not d.changed) d) false
 pub alike_alive : {r r' : ReaderState} → Alike r r' → is_alive r' ≡ is_alive r
 alike_alive p = ap alive_by p.dependencies
 
-pub alike_now : (app : Shape) (n : ℕ) {r r' : ReaderState} → Alike r r' → now_by app n r' ≡ now_by app n r
-alike_now app n {r} {r'} p = λ i. now_by app n (record { dependencies = p.dependencies i; isolated = p.isolated i; shown = r.shown; last = r.last })
+pub alike_now : (app : Shape) (n : ℕ) {r r' : ReaderState} → Alike r r' → site_now app n r' ≡ site_now app n r
+alike_now app n {r} {r'} p = λ i. site_now app n (record { dependencies = p.dependencies i; isolated = p.isolated i; shown = r.shown; last = r.last })
 
 -- a reader that isn't alive, and whose sites alone change
-pub dead_now : (app : Shape) (n : ℕ) (r r' : ReaderState) → r'.dependencies ≡ r.dependencies → is_alive r ≡ false → now_by app n r' ≡ now_by app n r
+pub dead_now : (app : Shape) (n : ℕ) (r r' : ReaderState) → r'.dependencies ≡ r.dependencies → is_alive r ≡ false → site_now app n r' ≡ site_now app n r
 dead_now app n r r' same dead =
-    funext (λ s. if_false (is_alive r') (kept_by r' s) (open_by app n r' s) (ap alive_by same ∙ dead)
+    funext (λ s. if_false (is_alive r') (kept_site r' s) (open_site app n r' s) (ap alive_by same ∙ dead)
     ∙ ap (λ (d : Option Dependencies). if is_some d then None else first_sites app n s) same
-    ∙ sym (if_false (is_alive r) (kept_by r s) (open_by app n r s) dead))
+    ∙ sym (if_false (is_alive r) (kept_site r s) (open_site app n r s) dead))
 
-pub alive_now : (app : Shape) (n : ℕ) (r : ReaderState) → is_alive r ≡ true → now_by app n r ≡ kept_by r
-alive_now app n r alive = funext (λ s. if_true (is_alive r) (kept_by r s) (open_by app n r s) alive)
+pub alive_now : (app : Shape) (n : ℕ) (r : ReaderState) → is_alive r ≡ true → site_now app n r ≡ kept_site r
+alive_now app n r alive = funext (λ s. if_true (is_alive r) (kept_site r s) (open_site app n r s) alive)
 
-pub open_now : (app : Shape) (n : ℕ) (r : ReaderState) → is_alive r ≡ false → now_by app n r ≡ open_by app n r
-open_now app n r dead = funext (λ s. if_false (is_alive r) (kept_by r s) (open_by app n r s) dead)
+pub open_now : (app : Shape) (n : ℕ) (r : ReaderState) → is_alive r ≡ false → site_now app n r ≡ open_site app n r
+open_now app n r dead = funext (λ s. if_false (is_alive r) (kept_site r s) (open_site app n r s) dead)
 
-pub open_same : (app : Shape) (n : ℕ) (r r' : ReaderState) → r'.dependencies ≡ r.dependencies → open_by app n r' ≡ open_by app n r
+pub open_same : (app : Shape) (n : ℕ) (r r' : ReaderState) → r'.dependencies ≡ r.dependencies → open_site app n r' ≡ open_site app n r
 open_same app n r r' same = λ i. λ s. (if is_some (same i) then None else first_sites app n s)
 
 module _ (app : Shape) where
@@ -166,7 +166,7 @@ module _ (app : Shape) where
       found = subst (λ (x : Option Node). Every (IsFound (recorded runs.site (evaluate_node x runs).asked)) (recorded runs.site (evaluate_node x runs).asked)) (sym is) (node_meets runs i (orderly.sites n i is)).found
 
       abbrev kept_answers : (Read → Outcome) → Answers
-      kept_answers tell = record { read = tell; site = kept_by r }
+      kept_answers tell = record { read = tell; site = kept_site r }
 
       pub is_kept : (tell : Read → Outcome) (P : Read → Type 0) (e : ℕ × Outcome) → IsFound (recorded runs.site (trace app M n).asked) e → IsKept runs (kept_answers tell) P e
       is_kept tell P e h = ap (λ l. Some (unwrap_or (site_outcome e.0 l) o.Stop)) kept ∙ ap (λ x. Some (unwrap_or x o.Stop)) h

@@ -5,7 +5,7 @@ use Rattle.app_tree.specs.Numbering.{readers, reader, is_observer, is_evaluated}
 use Rattle.app_tree.specs.Fresh.{is_expression_at}
 use Rattle.session_model.specs.State.{SessionState, first_state, reader_state}
 use Rattle.session_model.specs.Change.{change}
-use Rattle.session_model.specs.Observing.{observed}
+use Rattle.session_model.specs.Observing.{read_by_observer}
 use Rattle.session_model.specs.Run.{visit_expression, run_reader}
 use Rattle.session_model.specs.Standing.{IsConsistent}
 use Rattle.app_laws.specs.Proper.{IsProper}
@@ -51,7 +51,7 @@ begin_keeps_consistent app p state consistent n i is o =
 
 pub term_keeps_consistent : TermKeepsConsistent
 term_keeps_consistent app p state consistent n i is o isolated t k numbered low =
-    again app p (observed app n isolated t state).state (observed_sound app (orderly app p) (covered app p) n (alone app p n i is o) isolated t k numbered low state (sound_of app p state consistent))
+    again app p (read_by_observer app n isolated t state).state (observed_sound app (orderly app p) (covered app p) n (alone app p n i is o) isolated t k numbered low state (sound_of app p state consistent))
 
 pub write_keeps_consistent : WriteKeepsConsistent
 write_keeps_consistent app p state consistent s x = again app p (change s x state) (sound_change app (orderly app p) (covered app p) state s x (sound_of app p state consistent))

@@ -3,22 +3,21 @@ use Rattle.std.proofs.Common.{◌≡◌, ℕ, suc, ◌+◌, ◌*◌, ◌≤◌, 
 use Rattle.std.specs.Prelude.{◌==◌, ◌&&◌, nat_le, is_some, if◌then◌else◌}
 use Rattle.std.specs.Str.{is_utf8}
 use Rattle.std.proofs.lemmas.Bool.{leb-true, le-ltb}
+use Rattle.std.proofs.Math.Bool.{and-eq-true_iff}
 use Rattle.serde_json.specs.Read.{read}
 use Rattle.shiny_json.specs.declared.message.Pair.{Pair}
 use Rattle.shiny_json.specs.declared.message.Client.{Client}
 use Rattle.shiny_json.specs.declared.message.Client.TheVariants.{Init, Update, Refused}
 use Rattle.shiny_json.specs.declared.message.BadMessage.TheVariants as bad
-use Rattle.shiny_json.specs.Client.{message_limit, json_message, client_message}
+use Rattle.shiny_json.specs.declared.limits.TheConstants.{MESSAGE_LIMIT}
+use Rattle.shiny_json.specs.Client.{json_message, client_message}
 use Rattle.app_tree.specs.Tree.{Shape}
-use Rattle.session_model.specs.Lines.{with_byte, lines_of, line_limit}
-use Rattle.session_model.specs.Transcript.{transcript_limit, is_feed, line_past_limit, Line, recv, ends, closes, parts_of, line_of, Open, with_session, step, done, takes, line_taken, Replayed, after_output, goes_by, said_by, replay_from}
-use Rattle.session_model.specs.TakenLines.{is_taken_json, pairs_set, taken_pairs, line_count_limit, is_first, is_of_one, is_taken, taken_line, taken_by, replayed_today}
+use Rattle.session_model.specs.Lines.{with_byte, lines_of}
+use Rattle.session_model.specs.Transcript.{is_feed, line_past_limit, Line, recv, ends, closes, parts_of, line_of, Open, with_session, step, done, takes, line_taken, ReplayResult, after_output, replay_after_line, line_unless_past, replay_from}
+use Rattle.session_model.specs.TakenLines.{is_taken_json, pairs_set, taken_pairs, is_first, is_of_one, is_taken, taken_line, taken_by, replayed_today}
 use Rattle.session_laws.specs.TakenWhole.{TakenIsWhole}
 use Rattle.session_laws.proofs.OneLine.{is_taken as is_taken_by_one}
-
-both_true : (a b : Bool) → (a && b) ≡ true → (a ≡ true) × (b ≡ true)
-both_true true b h = (refl, h)
-both_true false b h = absurd cc
+use Rattle.session_model.specs.declared.limits.TheConstants.{LINE_LIMIT, TRANSCRIPT_LIMIT, TAKEN_LINE_LIMIT}
 
 given_if : {A : Type 0} (b : Bool) (o : Option A) (x : A) → (if b then o else None) ≡ Some x → (b ≡ true) × (o ≡ Some x)
 given_if true o x h = (refl, h)
@@ -47,11 +46,11 @@ no_refusal true pairs e = cc
 no_refusal false pairs e = cc
 
 -- no message is longer than a client message may be
-pub taken_short : (app : Shape) (first : Bool) (text : List ℕ) (pairs : List Pair) → taken_pairs app first text ≡ Some pairs → length text ≤ message_limit
-taken_short app first text pairs e = by (nat_le (length text) message_limit) refl (given_if (is_taken_json app first (read text)) (pairs_set first (client_message text)) pairs e).1
+pub taken_short : (app : Shape) (first : Bool) (text : List ℕ) (pairs : List Pair) → taken_pairs app first text ≡ Some pairs → length text ≤ MESSAGE_LIMIT
+taken_short app first text pairs e = by (nat_le (length text) MESSAGE_LIMIT) refl (given_if (is_taken_json app first (read text)) (pairs_set first (client_message text)) pairs e).1
   where
-    by : (b : Bool) → nat_le (length text) message_limit ≡ b → pairs_set first (if b then json_message (read text) else Refused bad.TooLong) ≡ Some pairs → length text ≤ message_limit
-    by true h p = leb-true (length text) message_limit h
+    by : (b : Bool) → nat_le (length text) MESSAGE_LIMIT ≡ b → pairs_set first (if b then json_message (read text) else Refused bad.TooLong) ≡ Some pairs → length text ≤ MESSAGE_LIMIT
+    by true h p = leb-true (length text) MESSAGE_LIMIT h
     by false h p = absurd (no_refusal first pairs p)
 
 -- ---- a line
@@ -59,42 +58,42 @@ taken_short app first text pairs e = by (nat_le (length text) message_limit) ref
 -- a line that is taken says what it says as a whole, by its number and length it is within the limits
 record IsTakenLine (app : Shape) (k : ℕ) (line : List ℕ) (l : Line) : Type 0 where
   says : line_of app.items line ≡ Some l
-  within : k ≤ line_count_limit
-  short : length line ≤ line_limit
+  within : k ≤ TAKEN_LINE_LIMIT
+  short : length line ≤ LINE_LIMIT
 
-said_whole : (app : Shape) (k : ℕ) (sessions : List Open) (said : Option Line) (l : Line) → taken_line app k sessions said ≡ Some l → (said ≡ Some l) × (k ≤ line_count_limit)
+said_whole : (app : Shape) (k : ℕ) (sessions : List Open) (said : Option Line) (l : Line) → taken_line app k sessions said ≡ Some l → (said ≡ Some l) × (k ≤ TAKEN_LINE_LIMIT)
 said_whole app k sessions None l e = absurd cc
 said_whole app k sessions (Some (ends label t)) l e = absurd cc
 said_whole app k sessions (Some (closes label)) l e = absurd cc
 said_whole app k sessions (Some (recv label text)) l e =
     let given = given_if (is_taken app k sessions label text) (Some (recv label text)) l e in
-    let of_one = both_true (nat_le k line_count_limit && is_of_one label sessions) (is_some (taken_pairs app (is_first sessions) text)) given.0 in
-    let few = both_true (nat_le k line_count_limit) (is_of_one label sessions) of_one.0 in
-    (given.1, leb-true k line_count_limit few.0)
+    let of_one = (and-eq-true_iff (nat_le k TAKEN_LINE_LIMIT && is_of_one label sessions) (is_some (taken_pairs app (is_first sessions) text))).0 given.0 in
+    let few = (and-eq-true_iff (nat_le k TAKEN_LINE_LIMIT) (is_of_one label sessions)).0 of_one.0 in
+    (given.1, leb-true k TAKEN_LINE_LIMIT few.0)
 
 is_taken_line : (app : Shape) (k : ℕ) (sessions : List Open) (line : List ℕ) (l : Line) → taken_by app k sessions line ≡ Some l → IsTakenLine app k line l
 is_taken_line app k sessions line l e =
     let said = said_whole app k sessions (line_of app.items line) l e in
-    let given = given_if (nat_le (length line) line_limit && is_utf8 line) (parts_of app.items line) l said.0 in
+    let given = given_if (nat_le (length line) LINE_LIMIT && is_utf8 line) (parts_of app.items line) l said.0 in
     record {
       says = said.0;
       within = said.1;
-      short = leb-true (length line) line_limit (both_true (nat_le (length line) line_limit) (is_utf8 line) given.0).0;
+      short = leb-true (length line) LINE_LIMIT ((and-eq-true_iff (nat_le (length line) LINE_LIMIT) (is_utf8 line)).0 given.0).0;
     }
 
 -- ---- a replay
 
 -- a line behind which the replay is done: it is taken, and the replay goes on behind the session that it moves
-record IsLineTaken (app : Shape) (k : ℕ) (sessions : List Open) (line : List ℕ) (next : List Open → Replayed) : Type 0 where
-  within : k ≤ line_count_limit
-  short : length line ≤ line_limit
+record IsLineTaken (app : Shape) (k : ℕ) (sessions : List Open) (line : List ℕ) (next : List Open → ReplayResult) : Type 0 where
+  within : k ≤ TAKEN_LINE_LIMIT
+  short : length line ≤ LINE_LIMIT
   behind : List Open
   end : (next behind).end ≡ done
-  same : (other : List Open → Replayed) → other behind ≡ next behind
-      → goes_by app sessions (line_taken app k sessions (line_of app.items line)) other ≡ goes_by app sessions (line_taken app k sessions (taken_by app k sessions line)) next
+  same : (other : List Open → ReplayResult) → other behind ≡ next behind
+      → replay_after_line app sessions (line_taken app k sessions (line_of app.items line)) other ≡ replay_after_line app sessions (line_taken app k sessions (taken_by app k sessions line)) next
 
-is_line_taken : (app : Shape) (k : ℕ) (sessions : List Open) (line : List ℕ) (next : List Open → Replayed) (said : Option Line) → taken_by app k sessions line ≡ said
-    → (goes_by app sessions (line_taken app k sessions said) next).end ≡ done → IsLineTaken app k sessions line next
+is_line_taken : (app : Shape) (k : ℕ) (sessions : List Open) (line : List ℕ) (next : List Open → ReplayResult) (said : Option Line) → taken_by app k sessions line ≡ said
+    → (replay_after_line app sessions (line_taken app k sessions said) next).end ≡ done → IsLineTaken app k sessions line next
 is_line_taken app k sessions line next None e h = absurd cc
 is_line_taken app k sessions line next (Some l) e h =
     let t = is_taken_line app k sessions line l e in
@@ -105,19 +104,19 @@ is_line_taken app k sessions line next (Some l) e h =
       within = t.within;
       short = t.short;
       behind = with_session after.session sessions;
-      end = ap (λ x. (goes_by app sessions x next).end) (sym one.is) ∙ h;
+      end = ap (λ x. (replay_after_line app sessions x next).end) (sym one.is) ∙ h;
       same = λ other same.
-          ap (λ x. goes_by app sessions x other) (goes (line_of app.items line) t.says)
+          ap (λ x. replay_after_line app sessions x other) (goes (line_of app.items line) t.says)
           ∙ ap (after_output after.output) same
-          ∙ sym (ap (λ x. goes_by app sessions x next) (goes (taken_by app k sessions line) e));
+          ∙ sym (ap (λ x. replay_after_line app sessions x next) (goes (taken_by app k sessions line) e));
     }
 
 same_replay : (app : Shape) (lines : List (List ℕ)) (k : ℕ) (sessions : List Open) → (replay_from app (taken_by app) k sessions lines).end ≡ done
-    → replay_from app (said_by app None) k sessions lines ≡ replay_from app (taken_by app) k sessions lines
+    → replay_from app (line_unless_past app None) k sessions lines ≡ replay_from app (taken_by app) k sessions lines
 same_replay app [] k sessions h = refl
 same_replay app (line ∷ more) k sessions h =
     let l = is_line_taken app k sessions line (λ next. replay_from app (taken_by app) (suc k) next more) (taken_by app k sessions line) refl h in
-    l.same (λ next. replay_from app (said_by app None) (suc k) next more) (same_replay app more (suc k) l.behind l.end)
+    l.same (λ next. replay_from app (line_unless_past app None) (suc k) next more) (same_replay app more (suc k) l.behind l.end)
 
 -- ---- the limit of a transcript
 
@@ -134,7 +133,8 @@ bytes_within : (bytes : List ℕ) → length bytes ≤ total (lines_of bytes)
 bytes_within [] = omega arith
 bytes_within (b ∷ bytes) = byte_within (b == 10) b (length bytes) (lines_of bytes) (bytes_within bytes)
 
-lines_within : (app : Shape) (lines : List (List ℕ)) (k : ℕ) (sessions : List Open) → k ≤ 201 → (replay_from app (taken_by app) k sessions lines).end ≡ done → total lines + 70001 * k ≤ 70001 * 201
+lines_within : (app : Shape) (lines : List (List ℕ)) (k : ℕ) (sessions : List Open) → k ≤ suc TAKEN_LINE_LIMIT → (replay_from app (taken_by app) k sessions lines).end ≡ done
+    → total lines + suc LINE_LIMIT * k ≤ suc LINE_LIMIT * suc TAKEN_LINE_LIMIT
 lines_within app [] k sessions within h = omega (within, arith)
 lines_within app (line ∷ more) k sessions within h =
     let l = is_line_taken app k sessions line (λ next. replay_from app (taken_by app) (suc k) next more) (taken_by app k sessions line) refl h in
@@ -145,8 +145,8 @@ lines_within app (line ∷ more) k sessions within h =
 none_past : (app : Shape) (bytes : List ℕ) → (replayed_today app bytes).end ≡ done → line_past_limit bytes ≡ None
 none_past app bytes h =
     let a = bytes_within bytes in let b = lines_within app (lines_of bytes) 1 [] (omega arith) h in
-    ap (λ c. if c then Some (suc (length (filter is_feed (take transcript_limit bytes)))) else None) (le-ltb 67108864 (length bytes) (omega (a, b, arith)))
+    ap (λ c. if c then Some (suc (length (filter is_feed (take TRANSCRIPT_LIMIT bytes)))) else None) (le-ltb TRANSCRIPT_LIMIT (length bytes) (omega (a, b, arith)))
 
 pub taken_is_whole : TakenIsWhole
 taken_is_whole app bytes h =
-    ap (λ p. replay_from app (said_by app p) 1 [] (lines_of bytes)) (none_past app bytes h) ∙ same_replay app (lines_of bytes) 1 [] h
+    ap (λ p. replay_from app (line_unless_past app p) 1 [] (lines_of bytes)) (none_past app bytes h) ∙ same_replay app (lines_of bytes) 1 [] h

@@ -14,16 +14,16 @@ use Rattle.app_tree.specs.declared.term.Operator.{Operator}
 use Rattle.app_tree.specs.declared.term.Operator.TheVariants as operator
 use Rattle.app_tree.specs.Tree.{Tree, constant, group, get, variable, isolate, stop, require, fold, unary, binary, choice, call, Trees, no_trees, tree, Shape}
 use Rattle.app_tree.specs.Current.{told}
-use Rattle.app_tree.specs.Evaluate.{Answers, TraceEntry, reads, given, enters, leaves, Evaluation, Meaning, plain, read_of, after, then_by, then_with, wanted_bool, decided_by, operated, chosen_by, called, stopped, required, over_each, over_list, at_site, evaluate, evaluate_all, site_count, site_count_all}
+use Rattle.app_tree.specs.Evaluate.{Answers, TraceEntry, reads, given, enters, leaves, Evaluation, Meaning, plain, read_of, after, then_by, then_with, wanted_bool, decided_by, operated, chosen_by, called, stop_outcome, required, over_each, over_list, at_site, evaluate, evaluate_all, site_count, site_count_all}
 use Rattle.app_tree.specs.Cover.{reads_in, reads_in_all}
 use Rattle.app_tree.specs.Fresh.{fresh_outcome}
 use Rattle.session_model.specs.State.{SessionState, isolated_of}
 use Rattle.app_tree.specs.Trace.{Every, OfRead, EveryRead}
 use Rattle.session_model.specs.Reading as r
-use Rattle.session_model.specs.Reading.{TermResult, Visited, Manner, Reading, followed, go_on_by, go_on, read_in, decided_in, operated_in, chosen_in, over_each_in, over_list_in, kept_in, read_term, read_terms}
+use Rattle.session_model.specs.Reading.{TermResult, VisitResult, Manner, Reading, joined_results, go_on_by, go_on, read_in, decided_in, operated_in, chosen_in, over_each_in, over_list_in, kept_in, read_term, read_terms}
 use Rattle.app_laws.specs.Orderly.{IsNumbered, AreNumbered}
 use Rattle.app_laws.specs.Recorded.{given_outcome}
-use Rattle.session_laws.specs.Now.{then_walked, walked_by, walked}
+use Rattle.session_laws.specs.Now.{joined_visits, walk_of_entry, walk_of_trace}
 use Rattle.app_laws.proofs.Agreeing.{front, back}
 use Rattle.app_laws.proofs.Asking.{bare_numbered}
 use Rattle.app_laws.proofs.WhatIsAsked.{term_asks}
@@ -37,20 +37,20 @@ add_zero a = omega arith
 zero_add : (a : ℕ) → a ≡ 0 + a
 zero_add a = omega arith
 
-pub visited_eq : {x y : Visited} → x.state ≡ y.state → x.bodies ≡ y.bodies → x ≡ y
+pub visited_eq : {x y : VisitResult} → x.state ≡ y.state → x.bodies ≡ y.bodies → x ≡ y
 visited_eq p q = λ i. record { state = p i; bodies = q i }
 
 pub reached_eq : {x y : TermResult} → x.state ≡ y.state → x.bodies ≡ y.bodies → x.outside ≡ y.outside → x.outcome ≡ y.outcome → x ≡ y
 reached_eq p q s t = λ i. record { state = p i; bodies = q i; outside = s i; outcome = t i }
 
-pub walked-append : (manner : Manner) (site : ℕ → Option Outcome) (xs ys : List TraceEntry) (state : SessionState)
-    → walked manner site (xs ++ ys) state ≡ then_walked (walked manner site xs state) (walked manner site ys (walked manner site xs state).state)
-walked-append manner site [] ys state = visited_eq refl (zero_add (walked manner site ys state).bodies)
-walked-append manner site (x ∷ xs) ys state =
-    let one : Visited = walked_by manner site x state in
-    let two : Visited = walked manner site xs one.state in
-    let three : Visited = walked manner site ys two.state in
-    ap (then_walked one) (walked-append manner site xs ys one.state) ∙ visited_eq refl (sym (add_assoc one.bodies two.bodies three.bodies))
+pub walk_of_trace-append : (manner : Manner) (site : ℕ → Option Outcome) (xs ys : List TraceEntry) (state : SessionState)
+    → walk_of_trace manner site (xs ++ ys) state ≡ joined_visits (walk_of_trace manner site xs state) (walk_of_trace manner site ys (walk_of_trace manner site xs state).state)
+walk_of_trace-append manner site [] ys state = visited_eq refl (zero_add (walk_of_trace manner site ys state).bodies)
+walk_of_trace-append manner site (x ∷ xs) ys state =
+    let one : VisitResult = walk_of_entry manner site x state in
+    let two : VisitResult = walk_of_trace manner site xs one.state in
+    let three : VisitResult = walk_of_trace manner site ys two.state in
+    ap (joined_visits one) (walk_of_trace-append manner site xs ys one.state) ∙ visited_eq refl (sym (add_assoc one.bodies two.bodies three.bodies))
 
 abbrev pub IsSourceRead : Read → Type 0
 IsSourceRead (read.Expr m) = ⊥
@@ -64,13 +64,13 @@ pub record Serves (app : Shape) (manner : Manner) (a : Answers) (Low : Read → 
   pub keeps : (s : ℕ) (o : Outcome) (state : SessionState) → Fine state → Fine (manner.keep s o state)
 
 module _ (app : Shape) (manner : Manner) (a : Answers) (Low : Read → Type 0) (Fine : SessionState → Type 0) (serves : Serves app manner a Low Fine) where
-  abbrev walks : List TraceEntry → SessionState → Visited
-  walks asked state = walked manner a.site asked state
+  abbrev walks : List TraceEntry → SessionState → VisitResult
+  walks asked state = walk_of_trace manner a.site asked state
 
   abbrev pub through : Evaluation → SessionState → TermResult
   through e state = record { state = (walks e.asked state).state; bodies = (walks e.asked state).bodies; outside = e.outside; outcome = e.outcome }
 
-  step_fine : (x : TraceEntry) → OfRead Low x → (state : SessionState) → Fine state → Fine (walked_by manner a.site x state).state
+  step_fine : (x : TraceEntry) → OfRead Low x → (state : SessionState) → Fine state → Fine (walk_of_entry manner a.site x state).state
   step_fine (reads (read.Expr m)) q state f = serves.visits m q state f
   step_fine (reads (read.Input s)) q state f = f
   step_fine (reads (read.Value s)) q state f = f
@@ -84,20 +84,20 @@ module _ (app : Shape) (manner : Manner) (a : Answers) (Low : Read → Type 0) (
 
   pub walks_fine : (xs : List TraceEntry) → EveryRead Low xs → (state : SessionState) → Fine state → Fine (walks xs state).state
   walks_fine [] q state f = f
-  walks_fine (x ∷ xs) q state f = walks_fine xs q.1 (walked_by manner a.site x state).state (step_fine x q.0 state f)
+  walks_fine (x ∷ xs) q state f = walks_fine xs q.1 (walk_of_entry manner a.site x state).state (step_fine x q.0 state f)
 
   abbrev pub IsThrough : Reading → Evaluation → Type 0
   IsThrough reading e = (state : SessionState) → Fine state → reading state ≡ through e state
 
-  pub joined : (e next : Evaluation) (state : SessionState) → followed (through e state) (through next (walks e.asked state).state) ≡ through (after e next) state
+  pub joined : (e next : Evaluation) (state : SessionState) → joined_results (through e state) (through next (walks e.asked state).state) ≡ through (after e next) state
   joined e next state =
-      let both : walks (e.asked ++ next.asked) state ≡ then_walked (walks e.asked state) (walks next.asked (walks e.asked state).state) = walked-append manner a.site e.asked next.asked state in
-      reached_eq (ap (λ (w : Visited). w.state) (sym both)) (ap (λ (w : Visited). w.bodies) (sym both)) refl refl
+      let both : walks (e.asked ++ next.asked) state ≡ joined_visits (walks e.asked state) (walks next.asked (walks e.asked state).state) = walk_of_trace-append manner a.site e.asked next.asked state in
+      reached_eq (ap (λ (w : VisitResult). w.state) (sym both)) (ap (λ (w : VisitResult). w.bodies) (sym both)) refl refl
 
   goes : (e : Evaluation) (x : Outcome) (next : Value → Reading) (next' : Value → Evaluation) → EveryRead Low e.asked → ((y : Value) → IsThrough (next y) (next' y)) → (state : SessionState) → Fine state
       → go_on_by (through e state) x next ≡ through (then_by e x next') state
   goes e (outcome.Val y) next next' q k state f =
-      ap (followed (through e state)) (k y (walks e.asked state).state (walks_fine e.asked q state f)) ∙ joined e (next' y) state
+      ap (joined_results (through e state)) (k y (walks e.asked state).state (walks_fine e.asked q state f)) ∙ joined e (next' y) state
   goes e (outcome.Fail t) next next' q k state f = refl
   goes e outcome.Stop next next' q k state f = refl
   goes e outcome.Cancel next next' q k state f = refl
@@ -107,11 +107,11 @@ module _ (app : Shape) (manner : Manner) (a : Answers) (Low : Read → Type 0) (
       → IsThrough (λ state. go_on (reading state) next) (then_with e next')
   both reading e next next' p q k state f = ap (λ r. go_on r next) (p state f) ∙ goes e e.outcome next next' q k state f
 
-  plainly : (x : Outcome) → IsThrough (r.given x) (plain x)
+  plainly : (x : Outcome) → IsThrough (r.plain_reading x) (plain x)
   plainly x state f = refl
 
-  ends : (reading : Reading) (e : Evaluation) (g : Value → Outcome) → IsThrough reading e → EveryRead Low e.asked → IsThrough (λ state. go_on (reading state) (λ x. r.given (g x))) (then_with e (λ x. plain (g x)))
-  ends reading e g p q = both reading e (λ x. r.given (g x)) (λ x. plain (g x)) p q (λ x. plainly (g x))
+  ends : (reading : Reading) (e : Evaluation) (g : Value → Outcome) → IsThrough reading e → EveryRead Low e.asked → IsThrough (λ state. go_on (reading state) (λ x. r.plain_reading (g x))) (then_with e (λ x. plain (g x)))
+  ends reading e g p q = both reading e (λ x. r.plain_reading (g x)) (λ x. plain (g x)) p q (λ x. plainly (g x))
 
   decided : (d : Bool) (reading : Reading) (m : Meaning) (args : List Value) → IsThrough reading (m a args) → EveryRead Low (m a args).asked → (x : Value) → IsThrough (decided_in d reading x) (decided_by d m a args x)
   decided true reading m args p q (v.Bool true) = plainly _
@@ -165,9 +165,9 @@ module _ (app : Shape) (manner : Manner) (a : Answers) (Low : Read → Type 0) (
   site_through s reading m args (Some y) q p state f = cc
   site_through s reading m args None q p state f =
       let e : Evaluation = m a args in
-      let both : walks (e.asked ++ leaves s e.outcome ∷ []) state ≡ then_walked (walks e.asked state) (walks (leaves s e.outcome ∷ []) (walks e.asked state).state) = walked-append manner a.site e.asked (leaves s e.outcome ∷ []) state in
+      let both : walks (e.asked ++ leaves s e.outcome ∷ []) state ≡ joined_visits (walks e.asked state) (walks (leaves s e.outcome ∷ []) (walks e.asked state).state) = walk_of_trace-append manner a.site e.asked (leaves s e.outcome ∷ []) state in
       ap (kept_in manner s) (p state f)
-      ∙ reached_eq (ap (λ (w : Visited). w.state) (sym both)) (sym (add_zero (walks e.asked state).bodies) ∙ ap (λ (w : Visited). w.bodies) (sym both) ∙ zero_add (walks (e.asked ++ leaves s e.outcome ∷ []) state).bodies) refl refl
+      ∙ reached_eq (ap (λ (w : VisitResult). w.state) (sym both)) (sym (add_zero (walks e.asked state).bodies) ∙ ap (λ (w : VisitResult). w.bodies) (sym both) ∙ zero_add (walks (e.asked ++ leaves s e.outcome ∷ []) state).bodies) refl refl
 
   -- between these numbers no site is answered
   module _ (low high : ℕ) (unanswered : (s : ℕ) → low ≤ s → s < high → a.site s ≡ None) where
@@ -183,7 +183,7 @@ module _ (app : Shape) (manner : Manner) (a : Answers) (Low : Read → Type 0) (
       term_through (isolate s t) n d q i j args =
           let here : s ≡ n = d.0 in
           site_through s (read_term app manner t args) (evaluate t) args (a.site s) (unanswered s (omega (here, i, arith)) (omega (here, j, arith))) (term_through t (suc n) d.1 q (omega (i, arith)) (omega (j, arith)) args)
-      term_through (stop t) n d q i j args = ends (read_term app manner t args) (evaluate t a args) stopped (term_through t n d q i j args) (asked_of t n d q args)
+      term_through (stop t) n d q i j args = ends (read_term app manner t args) (evaluate t a args) stop_outcome (term_through t n d q i j args) (asked_of t n d q args)
       term_through (require t cancels) n d q i j args = ends (read_term app manner t args) (evaluate t a args) (required cancels) (term_through t n d q i j args) (asked_of t n d q args)
       term_through (fold list start accumulator element body) n d q i j args =
           let m : ℕ = n + site_count list in
@@ -215,7 +215,7 @@ module _ (app : Shape) (manner : Manner) (a : Answers) (Low : Read → Type 0) (
           (λ x. chooses (read_term app manner c args) (read_term app manner e args) (evaluate c) (evaluate e) args
           (term_through c m d.1.0 (back Low (reads_in condition) (reads_in c) two) (omega (i, arith)) (omega (j, arith)) args)
           (term_through e k d.1.1 (back Low (reads_in condition ++ reads_in c) (reads_in e) q) (omega (i, arith)) (omega (j, arith)) args) x)
-      term_through (call fun ts) n d q i j args = terms_through ts n d q i j args [] (λ xs. r.given (called fun xs)) (λ xs. plain (called fun xs)) (λ xs. plainly (called fun xs))
+      term_through (call fun ts) n d q i j args = terms_through ts n d q i j args [] (λ xs. r.plain_reading (called fun xs)) (λ xs. plain (called fun xs)) (λ xs. plainly (called fun xs))
 
       pub terms_through : (ts : Trees) (n : ℕ) → AreNumbered n ts → Every Low (reads_in_all ts) → low ≤ n → n + site_count_all ts ≤ high → (args done : List Value) (next : List Value → Reading) (next' : List Value → Evaluation)
           → ((xs : List Value) → IsThrough (next xs) (next' xs)) → IsThrough (read_terms app manner ts args done next) (evaluate_all ts a args done next')

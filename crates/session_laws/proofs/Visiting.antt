@@ -4,6 +4,7 @@ use Rattle.std.proofs.Common.{◌≡◌, ◌≢◌, inl, inr, ◌⊎◌, ◌<◌
 use Rattle.std.specs.Prelude.{◌||◌}
 use Rattle.std.proofs.lemmas.Bool.Decides.{eqb_tells}
 use Rattle.rx_value.specs.declared.outcome.Outcome.{Outcome}
+use Rattle.rx_value.specs.Results.{choose}
 use Rattle.app_tree.specs.declared.term.Read.{Read}
 use Rattle.app_tree.specs.declared.term.Read.TheVariants as read
 use Rattle.app_tree.specs.Tree.{Node, Shape}
@@ -14,14 +15,14 @@ use Rattle.app_tree.specs.Trace.{EveryRead}
 use Rattle.app_tree.specs.Fresh.{sources_of_reads, is_expression_at}
 use Rattle.session_model.specs.declared.state.ReaderState.{ReaderState}
 use Rattle.session_model.specs.State.{SessionState, reader_state, is_alive}
-use Rattle.session_model.specs.Reading.{Visited}
-use Rattle.session_model.specs.Run.{ReaderRun, choose, forgotten, keeping, with_isolated, run_with, run_if_dead, visit_below, visit_expression}
+use Rattle.session_model.specs.Reading.{VisitResult}
+use Rattle.session_model.specs.Run.{ReaderRun, state_as_run_begins, keeping_manner, with_isolated, run_with, run_if_dead, visit_below, visit_expression}
 use Rattle.session_model.specs.Standing.{IsAliveRead}
 use Rattle.app_laws.specs.Orderly.{ReadsBelow, bound_of, IsOrderly}
 use Rattle.app_laws.specs.Recorded.{given_outcome, recorded}
 use Rattle.app_laws.proofs.WhatIsAsked.{if_true, reads_map, reads_zip}
 use Rattle.app_laws.proofs.KnownLists.{get_in}
-use Rattle.session_laws.specs.Now.{known_now, open_sites, trace, walked}
+use Rattle.session_laws.specs.Now.{known_now, open_sites, trace, walk_of_trace}
 use Rattle.session_laws.specs.Sound.{IsSound}
 use Rattle.session_laws.specs.VisitLaws.{reader_by_trace, IsRunByTrace, IsReadOf, IsClosed}
 use Rattle.session_laws.proofs.States.{state_there}
@@ -109,7 +110,7 @@ module _ (app : Shape) (P : ℕ → Type 0) where
       abbrev k : ℕ
       k = bound_of app n i
 
-      abbrev visit : ℕ → SessionState → Visited
+      abbrev visit : ℕ → SessionState → VisitResult
       visit = visit_below app k
 
       good : Good app k visit
@@ -159,7 +160,7 @@ module _ (app : Shape) (P : ℕ → Type 0) where
         each = elsewhere O (with_isolated n s x O) g.mid (λ j d. state_there O n j _ d) g.each;
       }
 
-      goes : (site : ℕ → Option Outcome) (xs : List TraceEntry) → EveryRead IsWanted xs → (O : SessionState) → Goes O → Goes (walked (keeping visit n) site xs O).state
+      goes : (site : ℕ → Option Outcome) (xs : List TraceEntry) → EveryRead IsWanted xs → (O : SessionState) → Goes O → Goes (walk_of_trace (keeping_manner visit n) site xs O).state
       goes site [] h O g = g
       goes site (reads (read.Expr m) ∷ xs) h O g = goes site xs h.1 (visit m O).state (goes_visit m h.0 O g)
       goes site (reads (read.Input s) ∷ xs) h O g = goes site xs h.1 O g
@@ -184,7 +185,7 @@ module _ (app : Shape) (P : ℕ → Type 0) where
       E = F app orderly n i is evaluated (covered n) visit good M sound dead
 
       gone : Goes U
-      gone = goes (open_sites app M n) (trace app M n).asked asked (forgotten n M) (record {
+      gone = goes (open_sites app M n) (trace app M n).asked asked (state_as_run_begins n M) (record {
         mid = starts app orderly n i is evaluated (covered n) visit good M sound dead;
         each = λ j d. inl (state_there M n j _ d);
       })
@@ -229,9 +230,9 @@ module _ (app : Shape) (P : ℕ → Type 0) where
     pub led_below : (k : ℕ) → Led k
     led_below zero m l x h N sound closed = absurd (omega (l, arith))
     led_below (suc k) m l x h N sound closed = elim (eqb_tells m k) [
-      | inl p ↦ subst (λ (v : Visited). Leads N v.state) (sym (ap (λ b. choose b (λ s. run_if_dead (is_alive (reader_state s k)) (run_with app (visit_below app k) k) s) (visit_below app k m) N) p.0))
+      | inl p ↦ subst (λ (v : VisitResult). Leads N v.state) (sym (ap (λ b. choose b (λ s. run_if_dead (is_alive (reader_state s k)) (run_with app (visit_below app k) k) s) (visit_below app k m) N) p.0))
           (led_by k (led_below k) (subst (λ z. is_expression_at (reader app z) ≡ true) p.1 x) (subst P p.1 h) N sound closed (is_alive (reader_state N k)) refl)
-      | inr p ↦ subst (λ (v : Visited). Leads N v.state) (sym (ap (λ b. choose b (λ s. run_if_dead (is_alive (reader_state s k)) (run_with app (visit_below app k) k) s) (visit_below app k m) N) p.0))
+      | inr p ↦ subst (λ (v : VisitResult). Leads N v.state) (sym (ap (λ b. choose b (λ s. run_if_dead (is_alive (reader_state s k)) (run_with app (visit_below app k) k) s) (visit_below app k m) N) p.0))
           (led_below k m (let d = p.1 in omega (l, d, arith)) x h N sound closed)
     ]
 

@@ -10,12 +10,12 @@ use Rattle.app_tree.specs.Evaluate.{Answers, TraceEntry, reads, given, enters, l
 use Rattle.app_tree.specs.Fresh.{known_at, answer_to, is_expression_at, fresh_outcome}
 use Rattle.session_model.specs.declared.state.ReaderState.{ReaderState}
 use Rattle.session_model.specs.State.{SessionState, isolated_of, reader_state, is_alive}
-use Rattle.session_model.specs.Reading.{Visited}
-use Rattle.session_model.specs.Run.{with_isolated, keeping, passing}
+use Rattle.session_model.specs.Reading.{VisitResult}
+use Rattle.session_model.specs.Run.{with_isolated, keeping_manner, passing_manner}
 use Rattle.app_laws.specs.Orderly.{ReadsBelow, IsOrderly}
 use Rattle.app_tree.specs.Trace.{OfRead, EveryRead}
 use Rattle.app_laws.specs.Recorded.{given_outcome, recorded}
-use Rattle.session_laws.specs.Now.{known_now, walked_by, walked}
+use Rattle.session_laws.specs.Now.{known_now, walk_of_entry, walk_of_trace}
 use Rattle.session_model.specs.Standing.{IsAliveRead}
 use Rattle.session_laws.specs.Sound.{IsSound}
 use Rattle.session_laws.proofs.States.{state_here}
@@ -31,7 +31,7 @@ some_at (Some i) h = (i, refl, h)
 pub expression_of : (app : Shape) (m : ℕ) → is_expression_at (reader app m) ≡ true → (i : Node) × (reader app m ≡ Some i) × (is_expression i ≡ true)
 expression_of app m h = some_at (reader app m) h
 
-module _ (app : Shape) (orderly : IsOrderly app) (k : ℕ) (visit : ℕ → SessionState → Visited) (good : Good app k visit)
+module _ (app : Shape) (orderly : IsOrderly app) (k : ℕ) (visit : ℕ → SessionState → VisitResult) (good : Good app k visit)
     (M : SessionState) (n : ℕ) (inside : n < length M.readers) (dead : is_alive (reader_state M n) ≡ false) (apart : (N O : SessionState) → Steps app k N O → reader_state O n ≡ reader_state N n) where
   -- a state in the midst of the run of reader n, which began at M
   pub record IsMid (N : SessionState) : Type 0 where
@@ -78,10 +78,10 @@ module _ (app : Shape) (orderly : IsOrderly app) (k : ℕ) (visit : ℕ → Sess
     moves = dead_moves app orderly N n (mid_inside N f) (mid_dead N f) (kept_reader s x N) refl k M dead refl refl f.moves;
   }
 
-  pub keeping_serves : (site : ℕ → Option Outcome) → Serves app (keeping visit n) (answers site) Low IsMid
+  pub keeping_serves : (site : ℕ → Option Outcome) → Serves app (keeping_manner visit n) (answers site) Low IsMid
   keeping_serves site = record { source = told_same; gives = visit_gives; visits = visit_mid; keeps = keep_mid }
 
-  pub passing_serves : (site : ℕ → Option Outcome) → Serves app (passing visit) (answers site) Low IsMid
+  pub passing_serves : (site : ℕ → Option Outcome) → Serves app (passing_manner visit) (answers site) Low IsMid
   passing_serves site = record { source = told_same; gives = visit_gives; visits = visit_mid; keeps = λ s x N f. f }
 
   -- ---- what the walk leaves
@@ -92,7 +92,7 @@ module _ (app : Shape) (orderly : IsOrderly app) (k : ℕ) (visit : ℕ → Sess
     pub isolated : (reader_state O n).isolated ≡ (reader_state N n).isolated ++ recorded site xs
 
   abbrev next : (ℕ → Option Outcome) → TraceEntry → SessionState → SessionState
-  next site x N = (walked_by (keeping visit n) site x N).state
+  next site x N = (walk_of_entry (keeping_manner visit n) site x N).state
 
   still : (site : ℕ → Option Outcome) (x : TraceEntry) (xs : List TraceEntry) (N O : SessionState) → OfRead (IsAliveRead O) x → recorded site (x ∷ xs) ≡ recorded site xs → Walked site xs N O → Walked site (x ∷ xs) N O
   still site x xs N O here none w = record { mid = w.mid; keeps = w.keeps; alive = (here, w.alive); isolated = w.isolated ∙ ap (λ l. (reader_state N n).isolated ++ l) (sym none) }
@@ -116,7 +116,7 @@ module _ (app : Shape) (orderly : IsOrderly app) (k : ℕ) (visit : ℕ → Sess
     isolated = w.isolated ∙ ap (λ l. l ++ recorded site xs) (keep_isolated s x N f) ∙ append_assoc (reader_state N n).isolated ((s, x) ∷ []) (recorded site xs) ∙ ap (λ l. (reader_state N n).isolated ++ l) (sym one);
   }
 
-  pub walk : (site : ℕ → Option Outcome) (xs : List TraceEntry) → EveryRead Low xs → (N : SessionState) → IsMid N → Walked site xs N (walked (keeping visit n) site xs N).state
+  pub walk : (site : ℕ → Option Outcome) (xs : List TraceEntry) → EveryRead Low xs → (N : SessionState) → IsMid N → Walked site xs N (walk_of_trace (keeping_manner visit n) site xs N).state
   walk site [] h N f = record { mid = f; keeps = λ j e a. a; alive = tt; isolated = sym (append-nil (reader_state N n).isolated) }
   walk site (reads (read.Expr m) ∷ xs) h N f = visited site m xs N _ (good m h.0.0 h.0.1 N f.sound) h.0.1 (walk site xs h.1 (visit m N).state (visit_mid m h.0 N f))
   walk site (reads (read.Input s) ∷ xs) h N f = still site (reads (read.Input s)) xs N _ tt refl (walk site xs h.1 N f)

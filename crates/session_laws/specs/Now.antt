@@ -12,28 +12,28 @@ use Rattle.session_model.specs.declared.state.ReaderState.{ReaderState}
 use Rattle.session_model.specs.State.{SessionState, reader_state, with_sources, has_run, is_alive}
 use Rattle.app_laws.specs.Recorded.{given_outcome}
 use Rattle.session_model.specs.Bodies.{bodies_counted}
-use Rattle.session_model.specs.Reading.{TermResult, Visited, Manner}
-use Rattle.session_model.specs.Run.{ReaderRun, forgotten, keeping}
+use Rattle.session_model.specs.Reading.{TermResult, VisitResult, Manner}
+use Rattle.session_model.specs.Run.{ReaderRun, state_as_run_begins, keeping_manner, no_visit}
 
 -- ---- what every reader gives now
 
 -- the sites of a reader that keeps what its last run saw
-abbrev pub kept_by : ReaderState → ℕ → Option Outcome
-kept_by r site = Some (unwrap_or (site_outcome site r.isolated) o.Stop)
+abbrev pub kept_site : ReaderState → ℕ → Option Outcome
+kept_site r site = Some (unwrap_or (site_outcome site r.isolated) o.Stop)
 
 -- the sites of a reader as it runs: each is evaluated, but for the body of an event that ignores its first run
-abbrev pub open_by : Shape → ℕ → ReaderState → ℕ → Option Outcome
-open_by app n r site = if has_run r then None else first_sites app n site
+abbrev pub open_site : Shape → ℕ → ReaderState → ℕ → Option Outcome
+open_site app n r site = if has_run r then None else first_sites app n site
 
 -- a reader that is alive keeps its sites, and any other would run
-abbrev pub now_by : Shape → ℕ → ReaderState → ℕ → Option Outcome
-now_by app n r site = if is_alive r then kept_by r site else open_by app n r site
+abbrev pub site_now : Shape → ℕ → ReaderState → ℕ → Option Outcome
+site_now app n r site = if is_alive r then kept_site r site else open_site app n r site
 
 abbrev pub open_sites : Shape → SessionState → Sites
-open_sites app state n = open_by app n (reader_state state n)
+open_sites app state n = open_site app n (reader_state state n)
 
 abbrev pub sites_now : Shape → SessionState → Sites
-sites_now app state n = now_by app n (reader_state state n)
+sites_now app state n = site_now app n (reader_state state n)
 
 -- what each expression gives now, and what it reaches
 abbrev pub known_now : Shape → SessionState → List Known
@@ -49,34 +49,43 @@ trace app state n = evaluate_reader app state.values (open_sites app state) (kno
 
 -- ---- a run by its trace
 
-abbrev pub then_walked : Visited → Visited → Visited
-then_walked first next = record { state = next.state; bodies = first.bodies + next.bodies }
-
-abbrev pub stayed : SessionState → Visited
-stayed state = record { state = state; bodies = 0 }
+abbrev pub joined_visits : VisitResult → VisitResult → VisitResult
+joined_visits first next = record { state = next.state; bodies = first.bodies + next.bodies }
 
 -- what one thing that is asked does to the session
-abbrev pub walked_by : Manner → (ℕ → Option Outcome) → TraceEntry → SessionState → Visited
-walked_by manner site (reads (read.Expr m)) state = manner.visit m state
-walked_by manner site (reads r) state = stayed state
-walked_by manner site (given s) state = stayed (manner.keep s (given_outcome (site s)) state)
-walked_by manner site (enters s) state = stayed state
-walked_by manner site (leaves s outcome) state = stayed (manner.keep s outcome state)
+abbrev pub walk_of_entry : Manner → (ℕ → Option Outcome) → TraceEntry → SessionState → VisitResult
+walk_of_entry manner site (reads (read.Expr m)) state = manner.visit m state
+walk_of_entry manner site (reads r) state = no_visit state
+walk_of_entry manner site (given s) state = no_visit (manner.keep s (given_outcome (site s)) state)
+walk_of_entry manner site (enters s) state = no_visit state
+walk_of_entry manner site (leaves s outcome) state = no_visit (manner.keep s outcome state)
 
 -- each expression that is read is visited, and each site that is left is kept
-abbrev pub walked : Manner → (ℕ → Option Outcome) → List TraceEntry → SessionState → Visited
-walked manner site [] state = stayed state
-walked manner site (asked ∷ more) state = then_walked (walked_by manner site asked state) (walked manner site more (walked_by manner site asked state).state)
+abbrev pub walk_of_trace : Manner → (ℕ → Option Outcome) → List TraceEntry → SessionState → VisitResult
+walk_of_trace manner site [] state = no_visit state
+walk_of_trace manner site (asked ∷ more) state =
+    joined_visits
+    (walk_of_entry manner site asked state)
+    (walk_of_trace manner site more (walk_of_entry manner site asked state).state)
 
 abbrev pub open_answers : Shape → SessionState → ℕ → Answers
-open_answers app state n = record { read = answer_to app state.values (known_now app state); site = open_sites app state n }
+open_answers app state n = record {
+  read = answer_to app state.values (known_now app state);
+  site = open_sites app state n;
+}
 
 -- its sites are forgotten, what the trace asks is walked through, and then it depends on what the trace reached
-abbrev pub run_by_trace : Shape → (ℕ → SessionState → Visited) → ℕ → SessionState → ReaderRun
-run_by_trace app visit n state = ran_by (walked (keeping visit n) (open_sites app state n) (trace app state n).asked (forgotten n state))
+abbrev pub run_by_trace : Shape → (ℕ → SessionState → VisitResult) → ℕ → SessionState → ReaderRun
+run_by_trace app visit n state =
+    run_of
+    (walk_of_trace
+    (keeping_manner visit n)
+    (open_sites app state n)
+    (trace app state n).asked
+    (state_as_run_begins n state))
   where
-    ran_by : Visited → ReaderRun
-    ran_by after = record {
+    run_of : VisitResult → ReaderRun
+    run_of after = record {
       state = with_sources n (sources_of_reads app (known_now app state) [] (trace app state n).outside) after.state;
       outcome = (trace app state n).outcome;
       bodies = after.bodies + bodies_counted (reader app n) (open_answers app state n);
@@ -90,12 +99,12 @@ term_answers app state = record { read = answer_to app state.values (known_now a
 
 -- what it asks is walked through, and none of its sites is kept
 abbrev pub read_by_trace : Shape → Manner → Tree → SessionState → TermResult
-read_by_trace app manner t state = read_by (evaluate t (term_answers app state) [])
+read_by_trace app manner t state = result_of (evaluate t (term_answers app state) [])
   where
-    read_by : Evaluation → TermResult
-    read_by e = record {
-      state = (walked manner (λ site. None) e.asked state).state;
-      bodies = (walked manner (λ site. None) e.asked state).bodies;
+    result_of : Evaluation → TermResult
+    result_of e = record {
+      state = (walk_of_trace manner (λ site. None) e.asked state).state;
+      bodies = (walk_of_trace manner (λ site. None) e.asked state).bodies;
       outside = e.outside;
       outcome = e.outcome;
     }

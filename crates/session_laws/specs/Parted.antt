@@ -17,33 +17,49 @@ use Rattle.session_laws.specs.Now.{run_by_trace}
 abbrev equals : Tree → ℕ → Tree
 equals t n = binary (Strict op.Equal) t (constant (Int (pos n)))
 
--- `input i = 7; reactive a { isolate(input$i) } reactive b { a() } text o { if (b() == 5) { isolate(a()) } else { 0 } }`
-abbrev pub nested : Shape
-nested = record {
+-- `input i = 7; reactive a { isolate(input$i) } reactive b { a() }`
+-- `text o { if (b() == 5) { isolate(a()) } else { 0 } }`
+abbrev pub nested_app : Shape
+nested_app = record {
   budget = 1000;
   items =
       input (codes "i") (Int (pos 7))
       ∷ reactive (codes "a") no_trees (isolate 0 (get (read.Input 0)))
       ∷ reactive (codes "b") no_trees (get (read.Expr 0))
-      ∷ text (codes "o") (record { priority = pos 0; while_hidden = false; keys = no_trees; body = choice (equals (get (read.Expr 1)) 5) (isolate 0 (get (read.Expr 0))) (constant (Int (pos 0))) })
+      ∷ text (codes "o")
+      (record {
+        priority = pos 0;
+        while_hidden = false;
+        keys = no_trees;
+        body = choice (equals (get (read.Expr 1)) 5) (isolate 0 (get (read.Expr 0))) (constant (Int (pos 0)));
+      })
       ∷ [];
 }
 
-abbrev kept : Bool → List (ℕ × Outcome) → ReaderState
-kept changed isolated = record { dependencies = Some (record { sources = []; changed = changed }); isolated = isolated; shown = false; last = None }
+abbrev reader_with : Bool → List (ℕ × Outcome) → ReaderState
+reader_with changed isolated =
+    record {
+      dependencies = Some (record { sources = []; changed = changed });
+      isolated = isolated;
+      shown = false;
+      last = None;
+    }
 
 -- `a` saw 5 at its site and is no longer alive; `b`, which reads it, is
 abbrev pub wrong_state : SessionState
 wrong_state = record {
   values = Plain (Int (pos 7)) ∷ [];
-  readers = kept true ((0, Val (Int (pos 5))) ∷ []) ∷ kept false [] ∷ record { dependencies = None; isolated = []; shown = true; last = None } ∷ [];
+  readers =
+      reader_with true ((0, Val (Int (pos 5))) ∷ []) ∷ reader_with false []
+      ∷ record { dependencies = None; isolated = []; shown = true; last = None } ∷ [];
   boards = [];
 }
 
 -- as a run is stated, `b` gives 5 from what `a` saw, so the output's site is evaluated, and there `a` runs and gives 7
 abbrev pub SeesTheSite : Type 0
-SeesTheSite = (reader_state (run_reader nested 2 wrong_state).state 2).isolated ≡ (0, Val (Int (pos 7))) ∷ []
+SeesTheSite = (reader_state (run_reader nested_app 2 wrong_state).state 2).isolated ≡ (0, Val (Int (pos 7))) ∷ []
 
 -- by what each reader gives now, `b` gives 7, and the site isn't met
 abbrev pub MissesTheSite : Type 0
-MissesTheSite = (reader_state (run_by_trace nested (visit_expression nested) 2 wrong_state).state 2).isolated ≡ []
+MissesTheSite =
+    (reader_state (run_by_trace nested_app (visit_expression nested_app) 2 wrong_state).state 2).isolated ≡ []

@@ -1,4 +1,5 @@
--- What is expected of the states that a session comes to: what it keeps is right, and with it each output that a client sees.
+-- What is expected of the states that a session comes to: what it keeps is right, and with it each output that a client
+-- sees.
 use Rattle.std.specs.Prelude.{◌≡◌, ℕ, true, List, Some, None}
 use Rattle.rx_value.specs.declared.source.SourceValue.{SourceValue}
 use Rattle.app_tree.specs.Tree.{Node, Shape}
@@ -19,30 +20,39 @@ abbrev pub FirstIsRight : Type 0
 FirstIsRight = (app : Shape) → IsProper app → IsRight app (first_state app)
 
 abbrev pub ChangeKeepsRight : Type 0
-ChangeKeepsRight = (app : Shape) → IsProper app → (state : SessionState) (s : ℕ) (x : SourceValue) → IsRight app state → IsRight app (change s x state)
+ChangeKeepsRight =
+    (app : Shape) → IsProper app → (state : SessionState) (s : ℕ) (x : SourceValue) → IsRight app state
+    → IsRight app (change s x state)
 
 abbrev pub RunKeepsRight : Type 0
-RunKeepsRight = (app : Shape) → IsProper app → (state : SessionState) (n : ℕ) → IsRight app state → next_waiting app state ≡ Some n → IsRight app (make_run app n state).state
+RunKeepsRight =
+    (app : Shape) → IsProper app → (state : SessionState) (n : ℕ) → IsRight app state → next_waiting app state ≡ Some n
+    → IsRight app (make_run app n state).state
 
 abbrev pub FlushKeepsRight : Type 0
-FlushKeepsRight = (app : Shape) → IsProper app → (state : SessionState) → IsRight app state → IsRight app (flush app state).state
+FlushKeepsRight =
+    (app : Shape) → IsProper app → (state : SessionState) → IsRight app state → IsRight app (flush app state).state
 
 abbrev pub JournalIsRight : Type 0
 JournalIsRight = (app : Shape) → IsProper app → (journal : List Event) → IsRight app (state_after app journal)
 
 -- ---- what a client sees
 
--- after a journal that has not ended the session, and with an accepted init in it, each output that is wanted has last come to
--- what it comes to afresh
+-- after a journal that has not ended the session, and with an accepted init in it, each output that is wanted has last
+-- come to what it comes to afresh
 abbrev pub WantedIsFresh : Type 0
 WantedIsFresh =
-    (app : Shape) → IsProper app → (journal : List Event) → ending app journal ≡ None → (journal_result app journal).begun ≡ true → (n : ℕ) (i : Node) → reader app n ≡ Some i → is_output i ≡ true
+    (app : Shape) → IsProper app → (journal : List Event) → ending app journal ≡ None
+    → (journal_result app journal).begun ≡ true → (n : ℕ) (i : Node) → reader app n ≡ Some i → is_output i ≡ true
     → is_wanted i (reader_state (state_after app journal) n) ≡ true
-    → (reader_state (state_after app journal) n).last ≡ Some (fresh_outcome app (state_after app journal).values (isolated_of (state_after app journal)) n)
+    → (reader_state (state_after app journal) n).last
+    ≡ Some (fresh_outcome app (state_after app journal).values (isolated_of (state_after app journal)) n)
 
 -- so it is of each output that is shown, also before the first message, when none is
 abbrev pub ShownIsFresh : Type 0
 ShownIsFresh =
-    (app : Shape) → IsProper app → (journal : List Event) → ending app journal ≡ None → (n : ℕ) (i : Node) → reader app n ≡ Some i → is_output i ≡ true
+    (app : Shape) → IsProper app → (journal : List Event) → ending app journal ≡ None → (n : ℕ) (i : Node)
+    → reader app n ≡ Some i → is_output i ≡ true
     → (reader_state (state_after app journal) n).shown ≡ true
-    → (reader_state (state_after app journal) n).last ≡ Some (fresh_outcome app (state_after app journal).values (isolated_of (state_after app journal)) n)
+    → (reader_state (state_after app journal) n).last
+    ≡ Some (fresh_outcome app (state_after app journal).values (isolated_of (state_after app journal)) n)

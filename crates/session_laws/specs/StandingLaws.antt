@@ -4,7 +4,7 @@ use Rattle.app_tree.specs.Tree.{Shape}
 use Rattle.session_model.specs.declared.event.Event.{Event}
 use Rattle.session_model.specs.State.{SessionState, first_state}
 use Rattle.session_model.specs.Alone.{state_after}
-use Rattle.session_model.specs.Standing.{IsConsistent, first_kept_flush, StandsForState, StandsWholly, missing_readers, keeping_all, keeping_wholly}
+use Rattle.session_model.specs.Standing.{IsConsistent, first_kept_flush, StandsForState, StandsWholly, missing_readers, session_keeping_all, flush_keeping_all}
 use Rattle.app_laws.specs.Proper.{IsProper}
 
 -- what each journal leaves is consistent
@@ -17,11 +17,14 @@ FirstStands = (app : Shape) → IsProper app → StandsWholly app (first_kept_fl
 
 -- one that keeps all stands for the state
 abbrev pub KeepingAllStands : Type 0
-KeepingAllStands = (app : Shape) (state : SessionState) → IsConsistent app state → StandsForState app (keeping_all app state) state
+KeepingAllStands =
+    (app : Shape) (state : SessionState) → IsConsistent app state
+    → StandsForState app (session_keeping_all app state) state
 
 abbrev pub KeepingWhollyStands : Type 0
-KeepingWhollyStands = (app : Shape) (state : SessionState) → IsConsistent app state → StandsWholly app (keeping_wholly app state) state
+KeepingWhollyStands =
+    (app : Shape) (state : SessionState) → IsConsistent app state → StandsWholly app (flush_keeping_all app state) state
 
 -- with no reader missing
 abbrev pub NoneIsMissing : Type 0
-NoneIsMissing = (app : Shape) (state : SessionState) → missing_readers app (keeping_all app state) state ≡ 0
+NoneIsMissing = (app : Shape) (state : SessionState) → missing_readers app (session_keeping_all app state) state ≡ 0

@@ -8,7 +8,7 @@ use Rattle.app_tree.specs.Trace.{Every}
 use Rattle.session_model.specs.State.{SessionState, first_state, reader_state, with_sources, is_alive}
 use Rattle.session_model.specs.Change.{change}
 use Rattle.session_model.specs.Run.{visit_expression, run_reader}
-use Rattle.session_model.specs.Observing.{observed}
+use Rattle.session_model.specs.Observing.{read_by_observer}
 use Rattle.session_model.specs.Standing.{IsConsistent}
 use Rattle.app_laws.specs.Orderly.{ReadsBelow, IsNumbered}
 use Rattle.app_laws.specs.Proper.{IsProper}
@@ -24,29 +24,34 @@ pub record IsVisited (app : Shape) (m : ℕ) (state : SessionState) : Type 0 whe
 -- a read of an expression
 abbrev pub VisitKeepsConsistent : Type 0
 VisitKeepsConsistent =
-    (app : Shape) → IsProper app → (state : SessionState) → IsConsistent app state → (m : ℕ) (i : Node) → reader app m ≡ Some i → is_expression i ≡ true
+    (app : Shape) → IsProper app → (state : SessionState) → IsConsistent app state → (m : ℕ) (i : Node)
+    → reader app m ≡ Some i → is_expression i ≡ true
     → IsVisited app m (visit_expression app m state).state
 
 -- a run of an output, alive or not
 abbrev pub OutputKeepsConsistent : Type 0
 OutputKeepsConsistent =
-    (app : Shape) → IsProper app → (state : SessionState) → IsConsistent app state → (n : ℕ) (i : Node) → reader app n ≡ Some i → is_output i ≡ true
+    (app : Shape) → IsProper app → (state : SessionState) → IsConsistent app state → (n : ℕ) (i : Node)
+    → reader app n ≡ Some i → is_output i ≡ true
     → IsConsistent app (run_reader app n state).state
 
 -- the beginning of an observer's run
 abbrev pub BeginKeepsConsistent : Type 0
 BeginKeepsConsistent =
-    (app : Shape) → IsProper app → (state : SessionState) → IsConsistent app state → (n : ℕ) (i : Node) → reader app n ≡ Some i → is_observer i ≡ true
+    (app : Shape) → IsProper app → (state : SessionState) → IsConsistent app state → (n : ℕ) (i : Node)
+    → reader app n ≡ Some i → is_observer i ≡ true
     → IsConsistent app (with_sources n [] state)
 
 -- a term of it, whose reads count or not
 abbrev pub TermKeepsConsistent : Type 0
 TermKeepsConsistent =
-    (app : Shape) → IsProper app → (state : SessionState) → IsConsistent app state → (n : ℕ) (i : Node) → reader app n ≡ Some i → is_observer i ≡ true
+    (app : Shape) → IsProper app → (state : SessionState) → IsConsistent app state → (n : ℕ) (i : Node)
+    → reader app n ≡ Some i → is_observer i ≡ true
     → (isolated : Bool) (t : Tree) (k : ℕ) → IsNumbered k t → Every (ReadsBelow app (length (readers app))) (reads_in t)
-    → IsConsistent app (observed app n isolated t state).state
+    → IsConsistent app (read_by_observer app n isolated t state).state
 
 -- a write
 abbrev pub WriteKeepsConsistent : Type 0
 WriteKeepsConsistent =
-    (app : Shape) → IsProper app → (state : SessionState) → IsConsistent app state → (s : ℕ) (x : SourceValue) → IsConsistent app (change s x state)
+    (app : Shape) → IsProper app → (state : SessionState) → IsConsistent app state → (s : ℕ) (x : SourceValue)
+    → IsConsistent app (change s x state)

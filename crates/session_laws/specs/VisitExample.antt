@@ -13,8 +13,8 @@ use Rattle.session_model.specs.Run.{visit_expression}
 use Rattle.session_laws.specs.VisitLaws.{reader_by_trace}
 
 -- `input i = 7; reactive a { input$i } reactive b { a() == isolate(input$i) } reactive c { input$i }`
-abbrev pub three : Shape
-three = record {
+abbrev pub three_expressions : Shape
+three_expressions = record {
   budget = 1000;
   items =
       input (codes "i") (Int (pos 7))
@@ -25,16 +25,21 @@ three = record {
 }
 
 -- it has reached the input, and this is what its sites came to
-abbrev reached : List (ℕ × Outcome) → ReaderState
-reached isolated = record first_reader { dependencies = Some (record { sources = 0 ∷ []; changed = false }); isolated = isolated }
+abbrev reader_with_sites : List (ℕ × Outcome) → ReaderState
+reader_with_sites isolated =
+    record first_reader { dependencies = Some (record { sources = 0 ∷ []; changed = false }); isolated = isolated }
 
-abbrev before : SessionState
-before = first_state three
+abbrev state_before : SessionState
+state_before = first_state three_expressions
 
 -- a visit to `b` runs `b` and `a`, and not `c`
 abbrev pub RunsTheAsked : Type 0
-RunsTheAsked = (visit_expression three 1 before).state.readers ≡ reached [] ∷ reached ((0, Val (Int (pos 7))) ∷ []) ∷ first_reader ∷ []
+RunsTheAsked =
+    (visit_expression three_expressions 1 state_before).state.readers
+    ≡ reader_with_sites [] ∷ reader_with_sites ((0, Val (Int (pos 7))) ∷ []) ∷ first_reader ∷ []
 
 -- which is what the traces say, before either was run
 abbrev pub TracesSayIt : Type 0
-TracesSayIt = reader_by_trace three before 0 ∷ reader_by_trace three before 1 ∷ [] ≡ reached [] ∷ reached ((0, Val (Int (pos 7))) ∷ []) ∷ []
+TracesSayIt =
+    reader_by_trace three_expressions state_before 0 ∷ reader_by_trace three_expressions state_before 1 ∷ []
+    ≡ reader_with_sites [] ∷ reader_with_sites ((0, Val (Int (pos 7))) ∷ []) ∷ []

@@ -9,16 +9,17 @@ use Rattle.session_model.specs.declared.event.Event.{Event}
 use Rattle.session_model.specs.declared.event.Event.TheVariants.{Text}
 use Rattle.session_model.specs.declared.reason.Reason.{Reason}
 use Rattle.session_model.specs.State.{first_state}
-use Rattle.session_model.specs.Journal.{text_byte_limit, text_bytes, is_full}
+use Rattle.session_model.specs.Journal.{text_bytes, is_full}
 use Rattle.session_model.specs.Alone.{JournalResult, first_result, after_event, texts_of_event, result_from, answers_from, answers, ending}
-use Rattle.session_model.specs.Faithful.{LinkItem, text_item, LinkTexts, client_items, EachOfRunning, EndsOnlyLast, has_end, IsToldFaithfully}
-use Rattle.session_model.specs.FaithfulExamples.{empty, init, update, config, busy, no_values, idle, OpenIsFaithful, EndedIsFaithful, LinkFailedIsFaithful, RefusedIsFaithful, BudgetSpentIsFaithful, ObserverFailedIsFaithful, JournalFullIsFaithful, MemoryIsFaithful, LinkMemoryIsFaithful, SilentLinkIsFaithful, WithheldText, UncountedFault, ShortJournal, EarlyEnd, EndOfAnotherInvocation, EventBehindTheEnd, OpenBehindTheEnd, FailureBehindARefusal, FailureBehindTheEnd}
+use Rattle.session_model.specs.Faithful.{LinkItem, text_item, LinkTexts, client_items, EachOfRunning, EndsOnlyLast, has_end, TextsAreFaithful}
+use Rattle.session_model.specs.FaithfulExamples.{empty_app, init, update, config, busy, no_values, idle, OpenIsFaithful, EndedIsFaithful, LinkFailedIsFaithful, RefusedIsFaithful, BudgetSpentIsFaithful, ObserverFailedIsFaithful, JournalFullIsFaithful, MemoryIsFaithful, LinkMemoryIsFaithful, SilentLinkIsFaithful, WithheldText, UncountedFault, ShortJournal, EarlyEnd, EndOfAnotherInvocation, EventBehindTheEnd, OpenBehindTheEnd, FailureBehindARefusal, FailureBehindTheEnd}
+use Rattle.session_model.specs.declared.limits.TheConstants.{EVENT_LIMIT, JOURNAL_TEXT_LIMIT}
 
--- what is said of the texts that a link tells is said of these
-told_by : (app : Shape) (label : List ℕ) (journal : List Event) (why : Option Reason) (t : LinkTexts) → IsToldFaithfully app label t journal why → (texts : LinkTexts) → Some t ≡ Some texts → IsToldFaithfully app label texts journal why
-told_by app label journal why t h texts e =
+-- what is said of the texts of a link is said of these
+texts_by : (app : Shape) (label : List ℕ) (journal : List Event) (why : Option Reason) (t : LinkTexts) → TextsAreFaithful app label t journal why → (texts : LinkTexts) → Some t ≡ Some texts → TextsAreFaithful app label texts journal why
+texts_by app label journal why t h texts e =
     let same : t ≡ texts = cc in
-    subst (λ (x : LinkTexts). IsToldFaithfully app label x journal why) same h
+    subst (λ (x : LinkTexts). TextsAreFaithful app label x journal why) same h
 
 not_both : {b : Bool} → b ≡ true → b ≡ false → ⊥
 not_both p q = cc
@@ -33,7 +34,7 @@ open_is_faithful = record {
   ends = refl;
   fault = λ e. cc;
   full = λ e. cc;
-  told = told_by _ _ _ _ _ (record { received = refl; sent = refl; ended = λ e. cc });
+  texts = texts_by _ _ _ _ _ (record { received = refl; sent = refl; ended = λ e. cc });
 }
 
 pub ended_is_faithful : EndedIsFaithful
@@ -44,7 +45,7 @@ ended_is_faithful = record {
   ends = refl;
   fault = λ e. cc;
   full = λ e. cc;
-  told = told_by _ _ _ _ _ (record { received = refl; sent = refl; ended = λ e. (refl, refl) });
+  texts = texts_by _ _ _ _ _ (record { received = refl; sent = refl; ended = λ e. (refl, refl) });
 }
 
 pub link_failed_is_faithful : LinkFailedIsFaithful
@@ -55,7 +56,7 @@ link_failed_is_faithful = record {
   ends = refl;
   fault = λ e. omega arith;
   full = λ e. cc;
-  told = told_by _ _ _ _ _ (record { received = refl; sent = record { rest = busy ∷ no_values ∷ idle ∷ []; is = refl }; ended = λ e. cc });
+  texts = texts_by _ _ _ _ _ (record { received = refl; sent = record { rest = busy ∷ no_values ∷ idle ∷ []; is = refl }; ended = λ e. cc });
 }
 
 pub refused_is_faithful : RefusedIsFaithful
@@ -66,7 +67,7 @@ refused_is_faithful = record {
   ends = refl;
   fault = λ e. cc;
   full = λ e. cc;
-  told = told_by _ _ _ _ _ (record { received = refl; sent = refl; ended = λ e. cc });
+  texts = texts_by _ _ _ _ _ (record { received = refl; sent = refl; ended = λ e. cc });
 }
 
 pub budget_spent_is_faithful : BudgetSpentIsFaithful
@@ -77,7 +78,7 @@ budget_spent_is_faithful = record {
   ends = refl;
   fault = λ e. cc;
   full = λ e. cc;
-  told = told_by _ _ _ _ _ (record { received = refl; sent = refl; ended = λ e. cc });
+  texts = texts_by _ _ _ _ _ (record { received = refl; sent = refl; ended = λ e. cc });
 }
 
 pub observer_failed_is_faithful : ObserverFailedIsFaithful
@@ -88,7 +89,7 @@ observer_failed_is_faithful = record {
   ends = refl;
   fault = λ e. cc;
   full = λ e. cc;
-  told = told_by _ _ _ _ _ (record { received = refl; sent = refl; ended = λ e. cc });
+  texts = texts_by _ _ _ _ _ (record { received = refl; sent = refl; ended = λ e. cc });
 }
 
 pub memory_is_faithful : MemoryIsFaithful
@@ -99,7 +100,7 @@ memory_is_faithful = record {
   ends = tt;
   fault = λ e. cc;
   full = λ e. cc;
-  told = told_by _ _ _ _ _ (record { received = refl; sent = inr refl; ended = λ e. cc });
+  texts = texts_by _ _ _ _ _ (record { received = refl; sent = inr refl; ended = λ e. cc });
 }
 
 pub link_memory_is_faithful : LinkMemoryIsFaithful
@@ -110,7 +111,7 @@ link_memory_is_faithful = record {
   ends = refl;
   fault = λ e. cc;
   full = λ e. cc;
-  told = told_by _ _ _ _ _ (record { received = refl; sent = record { rest = no_values ∷ idle ∷ []; is = refl }; ended = λ e. cc });
+  texts = texts_by _ _ _ _ _ (record { received = refl; sent = record { rest = no_values ∷ idle ∷ []; is = refl }; ended = λ e. cc });
 }
 
 pub silent_link_is_faithful : SilentLinkIsFaithful
@@ -121,48 +122,48 @@ silent_link_is_faithful = record {
   ends = refl;
   fault = λ e. cc;
   full = λ e. cc;
-  told = λ texts e. cc;
+  texts = λ t e. cc;
 }
 
 -- ---- a full journal: one update leaves the session as it is but for the count of items, and so do as many as you like
 
 -- behind the init, with so many items
 abbrev idle_for : ℕ → JournalResult
-idle_for i = record { state = first_state empty; begun = true; items = i; bodies = 0; ending = None }
+idle_for i = record { state = first_state empty_app; begun = true; items = i; bodies = 0; ending = None }
 
-after_init : after_event empty (first_result empty) (Text init) ≡ idle_for 1
+after_init : after_event empty_app (first_result empty_app) (Text init) ≡ idle_for 1
 unfolding serde_json_on_literals digits
 after_init = refl
 
-after_update : (i : ℕ) → after_event empty (idle_for i) (Text update) ≡ idle_for (suc i)
+after_update : (i : ℕ) → after_event empty_app (idle_for i) (Text update) ≡ idle_for (suc i)
 unfolding serde_json_on_literals digits
 after_update i = refl
 
-init_texts : texts_of_event empty (codes "s") (first_result empty) (Text init) ≡ config ∷ busy ∷ no_values ∷ idle ∷ []
+init_texts : texts_of_event empty_app (codes "s") (first_result empty_app) (Text init) ≡ config ∷ busy ∷ no_values ∷ idle ∷ []
 unfolding serde_json_on_literals digits
 init_texts = refl
 
-update_texts : (i : ℕ) → texts_of_event empty (codes "s") (idle_for i) (Text update) ≡ []
+update_texts : (i : ℕ) → texts_of_event empty_app (codes "s") (idle_for i) (Text update) ≡ []
 unfolding serde_json_on_literals digits
 update_texts i = refl
 
 abbrev updates : ℕ → List Event
 updates n = replicate n (Text update)
 
-updates_end : (n i : ℕ) → (result_from empty (idle_for i) (updates n)).ending ≡ None
+updates_end : (n i : ℕ) → (result_from empty_app (idle_for i) (updates n)).ending ≡ None
 updates_end zero i = refl
-updates_end (suc n) i = ap (λ (r : JournalResult). (result_from empty r (updates n)).ending) (after_update i) ∙ updates_end n (suc i)
+updates_end (suc n) i = ap (λ (r : JournalResult). (result_from empty_app r (updates n)).ending) (after_update i) ∙ updates_end n (suc i)
 
-updates_texts : (n i : ℕ) → answers_from empty (codes "s") (idle_for i) (updates n) ≡ []
+updates_texts : (n i : ℕ) → answers_from empty_app (codes "s") (idle_for i) (updates n) ≡ []
 updates_texts zero i = refl
 updates_texts (suc n) i =
-    ap (λ (texts : List (List ℕ)). texts ++ answers_from empty (codes "s") (after_event empty (idle_for i) (Text update)) (updates n)) (update_texts i)
-    ∙ ap (λ (r : JournalResult). answers_from empty (codes "s") r (updates n)) (after_update i)
+    ap (λ (texts : List (List ℕ)). texts ++ answers_from empty_app (codes "s") (after_event empty_app (idle_for i) (Text update)) (updates n)) (update_texts i)
+    ∙ ap (λ (r : JournalResult). answers_from empty_app (codes "s") r (updates n)) (after_update i)
     ∙ updates_texts n (suc i)
 
-updates_running : (n : ℕ) (r : JournalResult) → EachOfRunning empty r (updates n)
+updates_running : (n : ℕ) (r : JournalResult) → EachOfRunning empty_app r (updates n)
 updates_running zero r = tt
-updates_running (suc n) r = (tt, updates_running n (after_event empty r (Text update)))
+updates_running (suc n) r = (tt, updates_running n (after_event empty_app r (Text update)))
 
 updates_items : (n : ℕ) → client_items (updates n) ≡ replicate n (text_item update)
 updates_items zero = refl
@@ -176,32 +177,32 @@ updates_no_end : (n : ℕ) → has_end (updates n) ≡ false
 updates_no_end zero = refl
 updates_no_end (suc n) = updates_no_end n
 
-full_ending : (n : ℕ) → ending empty (Text init ∷ updates n) ≡ None
-full_ending n = ap (λ (r : JournalResult). (result_from empty r (updates n)).ending) after_init ∙ updates_end n 1
+full_ending : (n : ℕ) → ending empty_app (Text init ∷ updates n) ≡ None
+full_ending n = ap (λ (r : JournalResult). (result_from empty_app r (updates n)).ending) after_init ∙ updates_end n 1
 
-full_answers : (n : ℕ) → answers empty (codes "s") (Text init ∷ updates n) ≡ config ∷ busy ∷ no_values ∷ idle ∷ []
+full_answers : (n : ℕ) → answers empty_app (codes "s") (Text init ∷ updates n) ≡ config ∷ busy ∷ no_values ∷ idle ∷ []
 full_answers n =
-    ap (λ (texts : List (List ℕ)). texts ++ answers_from empty (codes "s") (after_event empty (first_result empty) (Text init)) (updates n)) init_texts
-    ∙ ap (λ (r : JournalResult). config ∷ busy ∷ no_values ∷ idle ∷ answers_from empty (codes "s") r (updates n)) after_init
+    ap (λ (texts : List (List ℕ)). texts ++ answers_from empty_app (codes "s") (after_event empty_app (first_result empty_app) (Text init)) (updates n)) init_texts
+    ∙ ap (λ (r : JournalResult). config ∷ busy ∷ no_values ∷ idle ∷ answers_from empty_app (codes "s") r (updates n)) after_init
     ∙ ap (λ (texts : List (List ℕ)). config ∷ busy ∷ no_values ∷ idle ∷ texts) (updates_texts n 1)
 
-enough : (n : ℕ) → 250000 ≤ n → nat_le 250000 n ≡ true
+enough : (n : ℕ) → EVENT_LIMIT ≤ n → nat_le EVENT_LIMIT n ≡ true
 enough n many = grind (arith, nat_tests)
 
-full_by_events : (journal : List Event) → 250000 ≤ length journal → is_full journal ≡ true
-full_by_events journal many = ap (λ (b : Bool). b || nat_lt text_byte_limit (text_bytes journal)) (enough (length journal) many)
+full_by_events : (journal : List Event) → EVENT_LIMIT ≤ length journal → is_full journal ≡ true
+full_by_events journal many = ap (λ (b : Bool). b || nat_lt JOURNAL_TEXT_LIMIT (text_bytes journal)) (enough (length journal) many)
 
-many_events : (n : ℕ) → 249999 ≤ n → 250000 ≤ length (Text init ∷ updates n)
+many_events : (n : ℕ) → EVENT_LIMIT ≤ suc n → EVENT_LIMIT ≤ length (Text init ∷ updates n)
 many_events n many = omega (arith, length-replicate {A = Event})
 
 pub journal_full_is_faithful : JournalFullIsFaithful
 journal_full_is_faithful n many = record {
-  running = (tt, updates_running n (after_event empty (first_result empty) (Text init)));
+  running = (tt, updates_running n (after_event empty_app (first_result empty_app) (Text init)));
   last = updates_last n;
   ends = full_ending n;
   fault = λ e. cc;
   full = λ e. full_by_events (Text init ∷ updates n) (many_events n many);
-  told = told_by _ _ _ _ _ (record {
+  texts = texts_by _ _ _ _ _ (record {
     received = ap (λ (items : List LinkItem). text_item init ∷ items) (updates_items n);
     sent = sym (full_answers n);
     ended = λ e. absurd (not_both e (updates_no_end n));
@@ -212,7 +213,7 @@ journal_full_is_faithful n many = record {
 
 pub withheld_text : WithheldText
 unfolding serde_json_on_literals digits
-withheld_text f = let sent = (f.told _ refl).sent in cc
+withheld_text f = let sent = (f.texts _ refl).sent in cc
 
 pub uncounted_fault : UncountedFault
 uncounted_fault f = let one = f.fault refl in omega arith
@@ -221,7 +222,7 @@ pub short_journal : ShortJournal
 short_journal f = let full = f.full refl in cc
 
 pub early_end : EarlyEnd
-early_end f = let ended = ((f.told _ refl).ended refl).0 in cc
+early_end f = let ended = ((f.texts _ refl).ended refl).0 in cc
 
 pub end_of_another_invocation : EndOfAnotherInvocation
 unfolding serde_json_on_literals digits

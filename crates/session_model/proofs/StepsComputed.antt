@@ -5,6 +5,7 @@ use Rattle.std.specs.Fmt.{digits}
 use Rattle.serde_json.proofs.OnLiterals.{serde_json_on_literals}
 use Rattle.session_model.specs.declared.event.Event.{Event}
 use Rattle.session_model.specs.declared.event.Event.TheVariants.{Other}
+use Rattle.session_model.specs.declared.limits.TheConstants.{EVENT_LIMIT, JOURNAL_TEXT_LIMIT}
 use Rattle.session_model.specs.Journal.{text_bytes}
 use Rattle.session_model.specs.StepExamples.{EqualValue, OtherValue, ClientSets, ForgetsSites, RunsTheBudget, StaysEnded, FullOfEvents, FullOfBytes, LastLineTaken, LineTooMany}
 
@@ -38,10 +39,10 @@ no_bytes (suc n) = no_bytes n
 
 pub full_of_events : FullOfEvents
 full_of_events n =
-    ap₂ (λ (k bytes : ℕ). nat_le 250000 k || nat_lt 16777216 bytes) (length-replicate {A = Event} n Other) (no_bytes n) ∙ or-false (nat_le 250000 n)
+    ap₂ (λ (k bytes : ℕ). nat_le EVENT_LIMIT k || nat_lt JOURNAL_TEXT_LIMIT bytes) (length-replicate {A = Event} n Other) (no_bytes n) ∙ or-false (nat_le EVENT_LIMIT n)
 
 pub full_of_bytes : FullOfBytes
-full_of_bytes t = ap (λ (bytes : ℕ). nat_lt 16777216 bytes) (add-zero (length t))
+full_of_bytes t = ap (λ (bytes : ℕ). nat_lt JOURNAL_TEXT_LIMIT bytes) (add-zero (length t))
 
 pub last_line_taken : LastLineTaken
 unfolding serde_json_on_literals digits

@@ -13,7 +13,7 @@ use Rattle.session_model.specs.State.{SessionState, first_state}
 use Rattle.session_model.specs.Change.{thaw}
 use Rattle.session_model.specs.Apply.{apply_pairs}
 use Rattle.session_model.specs.Tasks.{is_running, end_task}
-use Rattle.session_model.specs.Flush.{FlushEnd, Flushed, flush}
+use Rattle.session_model.specs.Flush.{FlushEnd, FlushResult, flush}
 use Rattle.session_model.specs.Flush as flush_end
 use Rattle.session_model.specs.Texts.{first_texts, later_texts}
 
@@ -39,20 +39,20 @@ first_result app = record { state = first_state app; begun = false; items = 0; b
 
 -- what an event does; `flushes` says whether it is the init
 pub data Effect : Type 0 where
-  flushes : Bool → Flushed → Effect
+  flushes : Bool → FlushResult → Effect
   refuses : BadMessage → Effect
   ends : Effect
   nothing : Effect
 
 -- what is frozen thaws, the message sets what it sets, and then comes the flush
-abbrev pub applied : Shape → List Pair → SessionState → Flushed
-applied app pairs state = flush app (apply_pairs app pairs (thaw state))
+abbrev pub flush_with_pairs : Shape → List Pair → SessionState → FlushResult
+flush_with_pairs app pairs state = flush app (apply_pairs app pairs (thaw state))
 
 -- the init comes first, and once
 abbrev pub message_effect : Shape → Bool → SessionState → Client → Effect
-message_effect app false state (Init pairs) = flushes true (applied app pairs state)
+message_effect app false state (Init pairs) = flushes true (flush_with_pairs app pairs state)
 message_effect app true state (Init pairs) = refuses bad.SecondInit
-message_effect app true state (Update pairs) = flushes false (applied app pairs state)
+message_effect app true state (Update pairs) = flushes false (flush_with_pairs app pairs state)
 message_effect app false state (Update pairs) = refuses bad.EarlyUpdate
 message_effect app begun state (Refused cause) = refuses cause
 
@@ -87,7 +87,13 @@ items_after Other items = suc items
 items_after _ items = items
 
 abbrev pub result_after : JournalResult → ℕ → Effect → JournalResult
-result_after so_far items (flushes first flushed) = record { state = flushed.state; begun = true; items = items; bodies = so_far.bodies + flushed.bodies; ending = flush_ending flushed.end }
+result_after so_far items (flushes first flushed) = record {
+  state = flushed.state;
+  begun = true;
+  items = items;
+  bodies = so_far.bodies + flushed.bodies;
+  ending = flush_ending flushed.end;
+}
 result_after so_far items (refuses cause) = record so_far { items = items; ending = Some (refused items cause) }
 result_after so_far items ends = record so_far { items = items; ending = Some ended }
 result_after so_far items nothing = so_far
@@ -119,7 +125,8 @@ result_from app so_far (event ∷ more) = result_from app (after_event app so_fa
 
 abbrev pub answers_from : Shape → List ℕ → JournalResult → List Event → List (List ℕ)
 answers_from app label so_far [] = []
-answers_from app label so_far (event ∷ more) = texts_of_event app label so_far event ++ answers_from app label (after_event app so_far event) more
+answers_from app label so_far (event ∷ more) =
+    texts_of_event app label so_far event ++ answers_from app label (after_event app so_far event) more
 
 -- all that is sent to the session of this label in answer to this journal
 abbrev pub answers : Shape → List ℕ → List Event → List (List ℕ)

@@ -15,12 +15,14 @@ after_front front name = if bytes_eq (take (length front) name) front then Some 
 
 -- what stands before this end
 abbrev pub before_end : List ℕ → List ℕ → Option (List ℕ)
-before_end end name = if bytes_eq (drop (length name - length end) name) end then Some (take (length name - length end) name) else None
+before_end end name =
+    if bytes_eq (drop (length name - length end) name) end then Some (take (length name - length end) name) else None
 
 -- the reader number of output NAME in `.clientdata_output_NAME` and this end
-abbrev pub output_told : List ℕ → List ℕ → List Node → Option ℕ
-output_told end name items =
-    option_and_then (λ output. output_number output items) (option_and_then (before_end end) (after_front (codes ".clientdata_output_") name))
+abbrev pub clientdata_output : List ℕ → List ℕ → List Node → Option ℕ
+clientdata_output end name items =
+    option_and_then (λ output. output_number output items)
+    (option_and_then (before_end end) (after_front (codes ".clientdata_output_") name))
 
 -- what a name of a client message stands for: an input by its source number, or of an output, by its reader number,
 -- the width, the height, or whether it is hidden
@@ -39,9 +41,9 @@ or_else None other = other
 abbrev pub target_of : List ℕ → List Node → Option Target
 target_of name items =
     or_else (option_map input (input_number name items))
-    (or_else (option_map width (output_told (codes "_width") name items))
-    (or_else (option_map height (output_told (codes "_height") name items))
-    (option_map hidden (output_told (codes "_hidden") name items))))
+    (or_else (option_map width (clientdata_output (codes "_width") name items))
+    (or_else (option_map height (clientdata_output (codes "_height") name items))
+    (option_map hidden (clientdata_output (codes "_hidden") name items))))
 
 -- an output is shown where the client says FALSE, and hidden at any other value
 abbrev pub is_shown_by : Value → Bool

@@ -9,14 +9,14 @@ one_if_values (Ok xs) = 1
 one_if_values (Err failure) = 0
 
 -- a body counts where there are no keys, or all of them came to values
-abbrev pub counted_behind : Trees → Answers → ℕ
-counted_behind no_trees answers = 1
-counted_behind (tree key more) answers = one_if_values (keys_result (tree key more) answers)
+abbrev pub bodies_behind_keys : Trees → Answers → ℕ
+bodies_behind_keys no_trees answers = 1
+bodies_behind_keys (tree key more) answers = one_if_values (keys_result (tree key more) answers)
 
 -- that of an event counts, also where the event stops before it
 abbrev pub bodies_counted : Option Node → Answers → ℕ
-bodies_counted (Some (reactive name keys body)) answers = counted_behind keys answers
+bodies_counted (Some (reactive name keys body)) answers = bodies_behind_keys keys answers
 bodies_counted (Some (event name flags e body)) answers = 1
-bodies_counted (Some (text name shown)) answers = counted_behind shown.keys answers
-bodies_counted (Some (plot name shown)) answers = counted_behind shown.keys answers
+bodies_counted (Some (text name shown)) answers = bodies_behind_keys shown.keys answers
+bodies_counted (Some (plot name shown)) answers = bodies_behind_keys shown.keys answers
 bodies_counted _ answers = 0

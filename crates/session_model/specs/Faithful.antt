@@ -1,5 +1,5 @@
--- What it means that a session's journal is the true record of it: of what its link gave, of what was sent over it, and of
--- why it is over.
+-- What it means that a session's journal is the true record of it: of what its link gave, of what was sent over it, and
+-- of why it is over.
 use Rattle.std.specs.Prelude.{◌≡◌, ◌⊎◌, ◌<◌, ⊤, ℕ, Bool, true, false, List, [], ◌∷◌, ◌++◌, Option, Some, None}
 use Rattle.app_tree.specs.Tree.{Shape}
 use Rattle.session_model.specs.declared.event.Event.{Event}
@@ -18,19 +18,19 @@ pub data LinkItem : Type 0 where
   text_item : List ℕ → LinkItem
   other_item : LinkItem
 
--- what a link tells: the items that it gave, those that are left of its script, whether the script has ended, and the texts
--- that were sent over it
+-- what a link tells: the items that it gave, those that are left of its script, whether the script has ended, and the
+-- texts that were sent over it
 pub record LinkTexts : Type 0 where
   pub received : List LinkItem
   pub left : List LinkItem
   pub ended : Bool
   pub sent : List (List ℕ)
 
--- its label, its count of faults, and what it tells, if it does
+-- its label, its count of faults, and its texts, if it tells them
 pub record LinkRecord : Type 0 where
   pub label : List ℕ
   pub faults : ℕ
-  pub told : Option LinkTexts
+  pub texts : Option LinkTexts
 
 -- ---- the journal
 
@@ -49,7 +49,8 @@ IsOfRunning state event = ⊤
 -- of each event of a journal, in the state before it
 abbrev pub EachOfRunning : Shape → JournalResult → List Event → Type 0
 EachOfRunning app so_far [] = ⊤
-EachOfRunning app so_far (event ∷ more) = IsOfRunning so_far.state event × EachOfRunning app (after_event app so_far event) more
+EachOfRunning app so_far (event ∷ more) =
+    IsOfRunning so_far.state event × EachOfRunning app (after_event app so_far event) more
 
 -- the link's end stands only last
 abbrev pub EndsOnlyLast : List Event → Type 0
@@ -75,8 +76,8 @@ reason_of (refused k cause) = reason.Refused k cause
 reason_of budget_spent = reason.BudgetSpent
 reason_of (observer_failed t) = reason.ObserverFailed t
 
--- a link may fail where the session goes on, and while the texts of its last flush are sent; behind a refusal or the link's
--- end nothing is sent
+-- a link may fail where the session goes on, and while the texts of its last flush are sent; behind a refusal or the
+-- link's end nothing is sent
 abbrev pub may_fail : Option Ending → Bool
 may_fail None = true
 may_fail (Some budget_spent) = true
@@ -105,14 +106,16 @@ pub record IsFront (front whole : List (List ℕ)) : Type 0 where
 abbrev pub IsSent : Shape → List ℕ → List Event → Option Reason → List (List ℕ) → Type 0
 IsSent app label journal (Some reason.LinkFailed) sent = IsFront sent (answers app label journal)
 IsSent app label journal (Some reason.LinkMemory) sent = IsFront sent (answers app label journal)
-IsSent app label journal (Some reason.Memory) sent = (sent ≡ answers app label journal) ⊎ (sent ≡ answers app label (without_last journal))
+IsSent app label journal (Some reason.Memory) sent =
+    (sent ≡ answers app label journal) ⊎ (sent ≡ answers app label (without_last journal))
 IsSent app label journal why sent = sent ≡ answers app label journal
 
 -- what is said of a link that tells its texts
-pub record IsToldFaithfully (app : Shape) (label : List ℕ) (told : LinkTexts) (journal : List Event) (why : Option Reason) : Type 0 where
-  pub received : client_items journal ≡ told.received
-  pub sent : IsSent app label journal why told.sent
-  pub ended : has_end journal ≡ true → (told.ended ≡ true) × (told.left ≡ [])
+pub record TextsAreFaithful (app : Shape) (label : List ℕ) (texts : LinkTexts) (journal : List Event)
+    (why : Option Reason) : Type 0 where
+  pub received : client_items journal ≡ texts.received
+  pub sent : IsSent app label journal why texts.sent
+  pub ended : has_end journal ≡ true → (texts.ended ≡ true) × (texts.left ≡ [])
 
 -- None stands for a session that is open
 pub record IsFaithful (app : Shape) (link : LinkRecord) (journal : List Event) (why : Option Reason) : Type 0 where
@@ -121,4 +124,4 @@ pub record IsFaithful (app : Shape) (link : LinkRecord) (journal : List Event) (
   pub ends : EndsFor why (ending app journal)
   pub fault : why ≡ Some reason.LinkFailed → 0 < link.faults
   pub full : why ≡ Some reason.JournalFull → is_full journal ≡ true
-  pub told : (texts : LinkTexts) → link.told ≡ Some texts → IsToldFaithfully app link.label texts journal why
+  pub texts : (t : LinkTexts) → link.texts ≡ Some t → TextsAreFaithful app link.label t journal why

@@ -1,5 +1,5 @@
 -- Faithful journals, one for each way in which a session can be over, and journals that are not faithful.
-use Rattle.std.specs.Prelude.{ℕ, pos, true, false, List, [], ◌∷◌, replicate, ◌≤◌, Some, None, codes}
+use Rattle.std.specs.Prelude.{ℕ, suc, pos, true, false, List, [], ◌∷◌, replicate, ◌≤◌, Some, None, codes}
 use Rattle.rx_value.specs.declared.value.Value.TheVariants.{Int}
 use Rattle.rx_value.specs.declared.value.Value.TheVariants as v
 use Rattle.rx_value.specs.declared.operator.BinOp.TheVariants.{Add}
@@ -8,32 +8,37 @@ use Rattle.app_tree.specs.declared.term.Read.TheVariants as read
 use Rattle.app_tree.specs.declared.term.Operator.TheVariants.{Strict}
 use Rattle.app_tree.specs.Tree.{constant, get, stop, binary, no_trees, set, invoke, perform, no_acts, act, value, task, observe, Shape}
 use Rattle.session_model.specs.declared.event.Event.TheVariants.{Text, Other, TaskEnd, End}
+use Rattle.session_model.specs.declared.limits.TheConstants.{EVENT_LIMIT}
 use Rattle.session_model.specs.declared.reason.Reason.TheVariants as reason
 use Rattle.session_model.specs.Faithful.{LinkItem, text_item, LinkTexts, LinkRecord, IsFaithful}
 
 -- ---- apps
 
 -- no items
-abbrev pub empty : Shape
-empty = record { budget = 1000; items = [] }
+abbrev pub empty_app : Shape
+empty_app = record { budget = 1000; items = [] }
 
 -- `budget 3; value v = 0; observe w { set v = v() + 1; }`
-abbrev pub counting : Shape
-counting = record {
+abbrev pub counting_app : Shape
+counting_app = record {
   budget = 3;
   items =
       value (codes "v") (Int (pos 0))
-      ∷ observe (codes "w") (pos 0) (act (set 0 (binary (Strict Add) (get (read.Value 0)) (constant (Int (pos 1))))) no_acts)
+      ∷ observe (codes "w") (pos 0)
+      (act (set 0 (binary (Strict Add) (get (read.Value 0)) (constant (Int (pos 1))))) no_acts)
       ∷ [];
 }
 
 -- `observe w { do stop("bad"); }`
-abbrev pub failing : Shape
-failing = record { budget = 1000; items = observe (codes "w") (pos 0) (act (perform (stop (constant (v.Text (codes "bad"))))) no_acts) ∷ [] }
+abbrev pub failing_app : Shape
+failing_app = record {
+  budget = 1000;
+  items = observe (codes "w") (pos 0) (act (perform (stop (constant (v.Text (codes "bad"))))) no_acts) ∷ [];
+}
 
 -- `task t() { 7 } observe w { invoke t(); } observe x { do status(t); }`
-abbrev pub invoking : Shape
-invoking = record {
+abbrev pub invoking_app : Shape
+invoking_app = record {
   budget = 1000;
   items =
       task (codes "t") [] (constant (Int (pos 7)))
@@ -65,20 +70,20 @@ idle = codes "{\"busy\":\"idle\"}"
 -- ---- links
 
 -- received these items and sent these texts; nothing is left, but the script has not ended
-abbrev pub still_going : List LinkItem → List (List ℕ) → LinkTexts
-still_going received sent = record { received = received; left = []; ended = false; sent = sent }
+abbrev pub open_link_texts : List LinkItem → List (List ℕ) → LinkTexts
+open_link_texts received sent = record { received = received; left = []; ended = false; sent = sent }
 
 -- the same where the script has ended
-abbrev pub at_its_end : List LinkItem → List (List ℕ) → LinkTexts
-at_its_end received sent = record { received = received; left = []; ended = true; sent = sent }
+abbrev pub ended_link_texts : List LinkItem → List (List ℕ) → LinkTexts
+ended_link_texts received sent = record { received = received; left = []; ended = true; sent = sent }
 
 -- with so many faults
 abbrev pub link : ℕ → LinkTexts → LinkRecord
-link faults texts = record { label = codes "s"; faults = faults; told = Some texts }
+link faults texts = record { label = codes "s"; faults = faults; texts = Some texts }
 
 -- tells nothing
 abbrev pub silent_link : LinkRecord
-silent_link = record { label = codes "s"; faults = 0; told = None }
+silent_link = record { label = codes "s"; faults = 0; texts = None }
 
 -- ---- faithful journals
 
@@ -86,38 +91,51 @@ silent_link = record { label = codes "s"; faults = 0; told = None }
 abbrev pub OpenIsFaithful : Type 0
 OpenIsFaithful =
     IsFaithful
-    invoking
-    (link 0 (still_going (text_item init ∷ []) (config ∷ busy ∷ no_values ∷ idle ∷ busy ∷ no_values ∷ idle ∷ [])))
+    invoking_app
+    (link 0 (open_link_texts (text_item init ∷ []) (config ∷ busy ∷ no_values ∷ idle ∷ busy ∷ no_values ∷ idle ∷ [])))
     (Text init ∷ TaskEnd 0 1 ∷ [])
     None
 
 abbrev pub EndedIsFaithful : Type 0
 EndedIsFaithful =
     IsFaithful
-    empty
-    (link 0 (at_its_end (text_item init ∷ []) (config ∷ busy ∷ no_values ∷ idle ∷ [])))
+    empty_app
+    (link 0 (ended_link_texts (text_item init ∷ []) (config ∷ busy ∷ no_values ∷ idle ∷ [])))
     (Text init ∷ End ∷ [])
     (Some reason.Ended)
 
 -- the second text could not be sent
 abbrev pub LinkFailedIsFaithful : Type 0
-LinkFailedIsFaithful = IsFaithful empty (link 1 (still_going (text_item init ∷ []) (config ∷ []))) (Text init ∷ []) (Some reason.LinkFailed)
+LinkFailedIsFaithful =
+    IsFaithful
+    empty_app
+    (link 1 (open_link_texts (text_item init ∷ []) (config ∷ [])))
+    (Text init ∷ [])
+    (Some reason.LinkFailed)
 
 -- the first item is no object
 abbrev pub RefusedIsFaithful : Type 0
 RefusedIsFaithful =
-    IsFaithful empty (link 0 (still_going (text_item (codes "[]") ∷ []) [])) (Text (codes "[]") ∷ []) (Some (reason.Refused 1 bad.NotObject))
+    IsFaithful
+    empty_app
+    (link 0 (open_link_texts (text_item (codes "[]") ∷ []) []))
+    (Text (codes "[]") ∷ [])
+    (Some (reason.Refused 1 bad.NotObject))
 
 -- the values and the idle text are not sent
 abbrev pub BudgetSpentIsFaithful : Type 0
 BudgetSpentIsFaithful =
-    IsFaithful counting (link 0 (still_going (text_item init ∷ []) (config ∷ busy ∷ []))) (Text init ∷ []) (Some reason.BudgetSpent)
+    IsFaithful
+    counting_app
+    (link 0 (open_link_texts (text_item init ∷ []) (config ∷ busy ∷ [])))
+    (Text init ∷ [])
+    (Some reason.BudgetSpent)
 
 abbrev pub ObserverFailedIsFaithful : Type 0
 ObserverFailedIsFaithful =
     IsFaithful
-    failing
-    (link 0 (still_going (text_item init ∷ []) (config ∷ busy ∷ [])))
+    failing_app
+    (link 0 (open_link_texts (text_item init ∷ []) (config ∷ busy ∷ [])))
     (Text init ∷ [])
     (Some (reason.ObserverFailed (codes "bad")))
 
@@ -125,24 +143,30 @@ ObserverFailedIsFaithful =
 abbrev pub JournalFullIsFaithful : Type 0
 JournalFullIsFaithful =
     (n : ℕ)
-    → 249999 ≤ n
+    → EVENT_LIMIT ≤ suc n
     → IsFaithful
-    empty
-    (link 0 (still_going (text_item init ∷ replicate n (text_item update)) (config ∷ busy ∷ no_values ∷ idle ∷ [])))
+    empty_app
+    (link 0 (open_link_texts (text_item init ∷ replicate n (text_item update)) (config ∷ busy ∷ no_values ∷ idle ∷ [])))
     (Text init ∷ replicate n (Text update))
     (Some reason.JournalFull)
 
 -- the init found no memory, so nothing was sent in answer to it
 abbrev pub MemoryIsFaithful : Type 0
-MemoryIsFaithful = IsFaithful empty (link 0 (still_going (text_item init ∷ []) [])) (Text init ∷ []) (Some reason.Memory)
+MemoryIsFaithful =
+    IsFaithful empty_app (link 0 (open_link_texts (text_item init ∷ []) [])) (Text init ∷ []) (Some reason.Memory)
 
 -- the third text found no memory
 abbrev pub LinkMemoryIsFaithful : Type 0
-LinkMemoryIsFaithful = IsFaithful empty (link 0 (still_going (text_item init ∷ []) (config ∷ busy ∷ []))) (Text init ∷ []) (Some reason.LinkMemory)
+LinkMemoryIsFaithful =
+    IsFaithful
+    empty_app
+    (link 0 (open_link_texts (text_item init ∷ []) (config ∷ busy ∷ [])))
+    (Text init ∷ [])
+    (Some reason.LinkMemory)
 
 -- nothing is said of the texts of a link that tells none
 abbrev pub SilentLinkIsFaithful : Type 0
-SilentLinkIsFaithful = IsFaithful empty silent_link (Text init ∷ Other ∷ []) (Some (reason.Refused 2 bad.Other))
+SilentLinkIsFaithful = IsFaithful empty_app silent_link (Text init ∷ Other ∷ []) (Some (reason.Refused 2 bad.Other))
 
 -- ---- journals that are not faithful
 
@@ -150,8 +174,8 @@ SilentLinkIsFaithful = IsFaithful empty silent_link (Text init ∷ Other ∷ [])
 abbrev pub WithheldText : Type 0
 WithheldText =
     IsFaithful
-    empty
-    (link 0 (at_its_end (text_item init ∷ []) (config ∷ busy ∷ no_values ∷ [])))
+    empty_app
+    (link 0 (ended_link_texts (text_item init ∷ []) (config ∷ busy ∷ no_values ∷ [])))
     (Text init ∷ End ∷ [])
     (Some reason.Ended)
     → ⊥
@@ -159,13 +183,18 @@ WithheldText =
 -- the link counts no fault
 abbrev pub UncountedFault : Type 0
 UncountedFault =
-    IsFaithful empty (link 0 (still_going (text_item init ∷ []) (config ∷ []))) (Text init ∷ []) (Some reason.LinkFailed) → ⊥
+    IsFaithful
+    empty_app
+    (link 0 (open_link_texts (text_item init ∷ []) (config ∷ [])))
+    (Text init ∷ [])
+    (Some reason.LinkFailed)
+    → ⊥
 
 abbrev pub ShortJournal : Type 0
 ShortJournal =
     IsFaithful
-    empty
-    (link 0 (still_going (text_item init ∷ []) (config ∷ busy ∷ no_values ∷ idle ∷ [])))
+    empty_app
+    (link 0 (open_link_texts (text_item init ∷ []) (config ∷ busy ∷ no_values ∷ idle ∷ [])))
     (Text init ∷ [])
     (Some reason.JournalFull)
     → ⊥
@@ -174,27 +203,28 @@ ShortJournal =
 abbrev pub EarlyEnd : Type 0
 EarlyEnd =
     IsFaithful
-    empty
-    (link 0 (still_going (text_item init ∷ []) (config ∷ busy ∷ no_values ∷ idle ∷ [])))
+    empty_app
+    (link 0 (open_link_texts (text_item init ∷ []) (config ∷ busy ∷ no_values ∷ idle ∷ [])))
     (Text init ∷ End ∷ [])
     (Some reason.Ended)
     → ⊥
 
 -- the invocation that runs has number 1; and no texts of the link are needed to tell
 abbrev pub EndOfAnotherInvocation : Type 0
-EndOfAnotherInvocation = IsFaithful invoking silent_link (Text init ∷ TaskEnd 0 2 ∷ []) None → ⊥
+EndOfAnotherInvocation = IsFaithful invoking_app silent_link (Text init ∷ TaskEnd 0 2 ∷ []) None → ⊥
 
 -- an event behind the end of the link
 abbrev pub EventBehindTheEnd : Type 0
-EventBehindTheEnd = IsFaithful empty silent_link (Text init ∷ End ∷ Other ∷ []) (Some reason.Ended) → ⊥
+EventBehindTheEnd = IsFaithful empty_app silent_link (Text init ∷ End ∷ Other ∷ []) (Some reason.Ended) → ⊥
 
 -- the link's end is in the journal of a session that is said to be open
 abbrev pub OpenBehindTheEnd : Type 0
-OpenBehindTheEnd = IsFaithful empty silent_link (Text init ∷ End ∷ []) None → ⊥
+OpenBehindTheEnd = IsFaithful empty_app silent_link (Text init ∷ End ∷ []) None → ⊥
 
 -- nothing is sent in answer to an item that is refused, so no link fails behind one
 abbrev pub FailureBehindARefusal : Type 0
-FailureBehindARefusal = IsFaithful empty (record silent_link { faults = 1 }) (Text (codes "[]") ∷ []) (Some reason.LinkFailed) → ⊥
+FailureBehindARefusal =
+    IsFaithful empty_app (record silent_link { faults = 1 }) (Text (codes "[]") ∷ []) (Some reason.LinkFailed) → ⊥
 
 abbrev pub FailureBehindTheEnd : Type 0
-FailureBehindTheEnd = IsFaithful empty silent_link (Text init ∷ End ∷ []) (Some reason.LinkMemory) → ⊥
+FailureBehindTheEnd = IsFaithful empty_app silent_link (Text init ∷ End ∷ []) (Some reason.LinkMemory) → ⊥

@@ -12,7 +12,8 @@ use Rattle.session_model.specs.Observing.{StatementsResult, run_observer}
 
 -- ---- who waits
 
--- observers run by themselves, and outputs where they are shown or run while they are hidden; nobody waits for anything else
+-- observers run by themselves, and outputs where they are shown or run while they are hidden; nobody waits for anything
+-- else
 abbrev pub is_wanted : Node → ReaderState → Bool
 is_wanted (text name output) r = output.while_hidden || r.shown
 is_wanted (plot name output) r = output.while_hidden || r.shown
@@ -48,7 +49,8 @@ and_later false w later = later
 -- of the readers that wait the one of highest priority, and of these the one of least number, where the first of these
 -- readers has number n
 abbrev pub waiting_from : ℕ → List Node → List ReaderState → Option Waiting
-waiting_from n (i ∷ more) (r ∷ rs) = and_later (is_waiting i r) (record { number = n; priority = priority_of i }) (waiting_from (suc n) more rs)
+waiting_from n (i ∷ more) (r ∷ rs) =
+    and_later (is_waiting i r) (record { number = n; priority = priority_of i }) (waiting_from (suc n) more rs)
 waiting_from n _ _ = None
 
 abbrev pub next_waiting : Shape → SessionState → Option ℕ
@@ -72,19 +74,29 @@ abbrev pub with_last : ℕ → Outcome → SessionState → SessionState
 with_last n outcome state = with_reader n (record (reader_state state n) { last = Some outcome }) state
 
 -- an output's outcome becomes its last outcome
-abbrev pub output_made : ℕ → ReaderRun → RunResult
-output_made n run = record { state = with_last n run.outcome run.state; bodies = run.bodies; run = record { number = n; outcome = run.outcome; messages = [] } }
+abbrev pub output_result : ℕ → ReaderRun → RunResult
+output_result n run =
+    record {
+      state = with_last n run.outcome run.state;
+      bodies = run.bodies;
+      run = record { number = n; outcome = run.outcome; messages = [] };
+    }
 
-abbrev pub observer_made : ℕ → StatementsResult → RunResult
-observer_made n result = record { state = result.state; bodies = result.bodies; run = record { number = n; outcome = result.outcome; messages = result.messages } }
+abbrev pub observer_result : ℕ → StatementsResult → RunResult
+observer_result n result =
+    record {
+      state = result.state;
+      bodies = result.bodies;
+      run = record { number = n; outcome = result.outcome; messages = result.messages };
+    }
 
 abbrev pub is_observer_at : Option Node → Bool
 is_observer_at (Some i) = is_observer i
 is_observer_at None = false
 
 abbrev pub make_by : Bool → Shape → ℕ → SessionState → RunResult
-make_by true app n state = observer_made n (run_observer app n state)
-make_by false app n state = output_made n (run_reader app n state)
+make_by true app n state = observer_result n (run_observer app n state)
+make_by false app n state = output_result n (run_reader app n state)
 
 abbrev pub make_run : Shape → ℕ → SessionState → RunResult
 make_run app n state = make_by (is_observer_at (reader app n)) app n state
@@ -97,7 +109,7 @@ pub data FlushEnd : Type 0 where
   budget_spent : FlushEnd
   observer_failed : List ℕ → FlushEnd
 
-pub record Flushed : Type 0 where
+pub record FlushResult : Type 0 where
   pub state : SessionState
   pub runs : List Run
   pub bodies : ℕ
@@ -112,23 +124,28 @@ abbrev pub failure_of : Shape → Run → Option (List ℕ)
 failure_of app run = failure_by (is_observer_at (reader app run.number)) run.outcome
 
 -- without a run
-abbrev pub no_runs : FlushEnd → SessionState → Flushed
+abbrev pub no_runs : FlushEnd → SessionState → FlushResult
 no_runs end state = record { state = state; runs = []; bodies = 0; end = end }
 
 -- a run, and what the flush makes behind it
-abbrev pub and_then : RunResult → Flushed → Flushed
-and_then first rest = record { state = rest.state; runs = first.run ∷ rest.runs; bodies = first.bodies + rest.bodies; end = rest.end }
+abbrev pub with_first_run : RunResult → FlushResult → FlushResult
+with_first_run first rest = record {
+  state = rest.state;
+  runs = first.run ∷ rest.runs;
+  bodies = first.bodies + rest.bodies;
+  end = rest.end;
+}
 
 -- the flush goes on behind a run, unless that is of an observer that failed
-abbrev pub unless_failed : Option (List ℕ) → (SessionState → Flushed) → SessionState → Flushed
-unless_failed None go_on state = go_on state
-unless_failed (Some why) go_on state = no_runs (observer_failed why) state
+abbrev pub go_on_unless_failed : Option (List ℕ) → (SessionState → FlushResult) → SessionState → FlushResult
+go_on_unless_failed None go_on state = go_on state
+go_on_unless_failed (Some why) go_on state = no_runs (observer_failed why) state
 
-abbrev pub after_run : Shape → (SessionState → Flushed) → RunResult → Flushed
-after_run app go_on first = and_then first (unless_failed (failure_of app first.run) go_on first.state)
+abbrev pub after_run : Shape → (SessionState → FlushResult) → RunResult → FlushResult
+after_run app go_on first = with_first_run first (go_on_unless_failed (failure_of app first.run) go_on first.state)
 
 -- where nobody waits there is no run, and else the next one stands in front of the flush behind it
-abbrev pub flush_step : Shape → (SessionState → Flushed) → SessionState → Option ℕ → Flushed
+abbrev pub flush_step : Shape → (SessionState → FlushResult) → SessionState → Option ℕ → FlushResult
 flush_step app go_on state None = no_runs done state
 flush_step app go_on state (Some n) = after_run app go_on (make_run app n state)
 
@@ -138,9 +155,9 @@ end_without_budget None = done
 end_without_budget (Some n) = budget_spent
 
 -- with so many runs left of the budget
-abbrev pub flush_within : Shape → ℕ → SessionState → Flushed
+abbrev pub flush_within : Shape → ℕ → SessionState → FlushResult
 flush_within app zero state = no_runs (end_without_budget (next_waiting app state)) state
 flush_within app (suc left) state = flush_step app (flush_within app left) state (next_waiting app state)
 
-abbrev pub flush : Shape → SessionState → Flushed
+abbrev pub flush : Shape → SessionState → FlushResult
 flush app state = flush_within app app.budget state

@@ -2,6 +2,7 @@
 use Rattle.std.specs.Prelude.{◌≡◌, ⊤, ℕ, ◌==◌, Bool, false, ◌&&◌, ◌||◌, nat_le, nat_lt, List, [], ◌∷◌, length, if◌then◌else◌}
 use Rattle.std.specs.List.{list_all, position_or_len}
 use Rattle.std.specs.Char.{is_ascii_alphanumeric}
+use Rattle.session_model.specs.declared.limits.TheConstants.{LABEL_LIMIT}
 
 abbrev pub with_byte : ℕ → List (List ℕ) → List (List ℕ)
 with_byte b [] = (b ∷ []) ∷ []
@@ -20,10 +21,6 @@ abbrev pub HasNoFeed : List ℕ → Type 0
 HasNoFeed [] = ⊤
 HasNoFeed (b ∷ bs) = ((b == 10) ≡ false) × HasNoFeed bs
 
--- the most bytes of a line, without its line feed
-abbrev pub line_limit : ℕ
-line_limit = 70000
-
 abbrev pub is_space : ℕ → Bool
 is_space b = b == 32
 
@@ -32,7 +29,7 @@ is_label_byte b = is_ascii_alphanumeric b || (b == 95)
 
 -- 1 to 32 ASCII letters, digits and `_`
 abbrev pub is_label : List ℕ → Bool
-is_label name = nat_lt 0 (length name) && nat_le (length name) 32 && list_all is_label_byte name
+is_label name = nat_lt 0 (length name) && nat_le (length name) LABEL_LIMIT && list_all is_label_byte name
 
 -- a space stands somewhere
 abbrev pub has_space : List ℕ → Bool

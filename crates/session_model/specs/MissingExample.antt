@@ -23,15 +23,23 @@ cached_ones = record {
       ∷ [];
 }
 
-abbrev alive : ReaderState
-alive = record first_reader { dependencies = Some (record { sources = 0 ∷ []; changed = false }) }
+abbrev alive_reader : ReaderState
+alive_reader = record first_reader { dependencies = Some (record { sources = 0 ∷ []; changed = false }) }
 
 abbrev pub all_alive : SessionState
-all_alive = record { values = Plain (Int (pos 7)) ∷ []; readers = alive ∷ alive ∷ alive ∷ []; boards = [] }
+all_alive = record {
+  values = Plain (Int (pos 7)) ∷ [];
+  readers = alive_reader ∷ alive_reader ∷ alive_reader ∷ [];
+  boards = [];
+}
 
-abbrev pub keeping_none : KeptSession
-keeping_none = record { values = Plain (Int (pos 7)) ∷ []; readers = first_kept ∷ first_kept ∷ first_kept ∷ []; running = None }
+abbrev pub session_keeping_none : KeptSession
+session_keeping_none = record {
+  values = Plain (Int (pos 7)) ∷ [];
+  readers = first_kept ∷ first_kept ∷ first_kept ∷ [];
+  running = None;
+}
 
 -- `a` and `b` are missing; a key of `c` fails, so its body would not be run
 abbrev pub CountsTheMissing : Type 0
-CountsTheMissing = missing_readers cached_ones keeping_none all_alive ≡ 2
+CountsTheMissing = missing_readers cached_ones session_keeping_none all_alive ≡ 2

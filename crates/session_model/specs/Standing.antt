@@ -28,20 +28,24 @@ IsAliveRead state r = ⊤
 abbrev pub HasSameMembers : List ℕ → List ℕ → Type 0
 HasSameMembers sources others = (s : ℕ) → is_among s sources ≡ is_among s others
 
--- The state has what it has for each reader of the app and for no other. Each expression or output that is alive depends on
--- the sources that it reads, and each expression that it asks for afresh, through its keys and, where these all come to
--- values, through its body, is alive too.
+-- The state has what it has for each reader of the app and for no other. Each expression or output that is alive
+-- depends on the sources that it reads, and each expression that it asks for afresh, through its keys and, where these
+-- all come to values, through its body, is alive too.
 pub record IsConsistent (app : Shape) (state : SessionState) : Type 0 where
   pub size : length state.readers ≡ length (readers app)
-  pub sources : (n : ℕ) (i : Node) → reader app n ≡ Some i → is_evaluated i ≡ true → is_alive (reader_state state n) ≡ true
-      → HasSameMembers (sources_in (reader_state state n).dependencies) (sources_read app state.values (isolated_of state) n)
-  pub closed : (n : ℕ) (i : Node) → reader app n ≡ Some i → is_evaluated i ≡ true → is_alive (reader_state state n) ≡ true
+  pub sources : (n : ℕ) (i : Node) → reader app n ≡ Some i → is_evaluated i ≡ true
+      → is_alive (reader_state state n) ≡ true
+      → HasSameMembers
+      (sources_in (reader_state state n).dependencies)
+      (sources_read app state.values (isolated_of state) n)
+  pub closed : (n : ℕ) (i : Node) → reader app n ≡ Some i → is_evaluated i ≡ true
+      → is_alive (reader_state state n) ≡ true
       → EveryRead (IsAliveRead state) (fresh_evaluation app state.values (isolated_of state) n).asked
 
 -- ---- sessions
 
--- what a reader is known to depend on: it never ran; it is stale, since a source that it had reached was changed; or it is
--- alive and depends on these sources
+-- what a reader is known to depend on: it never ran; it is stale, since a source that it had reached was changed; or it
+-- is alive and depends on these sources
 pub data Dependence : Type 0 where
   never_run : Dependence
   stale : Dependence
@@ -64,8 +68,8 @@ abbrev pub dependence_of : Option Dependencies → Dependence
 dependence_of None = never_run
 dependence_of (Some d) = dependence_by d.changed d.sources
 
--- what a session keeps for one reader: what it depends on, and of its last run the outcome and those of its isolated sites.
--- The observer that runs depends on what it has reached so far, and counts as one that has run
+-- what a session keeps for one reader: what it depends on, and of its last run the outcome and those of its isolated
+-- sites. The observer that runs depends on what it has reached so far, and counts as one that has run
 pub record KeptReader : Type 0 where
   pub dependence : Dependence
   pub isolated : List (ℕ × Outcome)
@@ -89,7 +93,11 @@ first_kept_readers (i ∷ more) = first_kept ∷ first_kept_readers more
 
 -- before anything ran
 abbrev pub first_session : Shape → KeptSession
-first_session app = record { values = starting_values app.items; readers = first_kept_readers (readers app); running = None }
+first_session app = record {
+  values = starting_values app.items;
+  readers = first_kept_readers (readers app);
+  running = None;
+}
 
 -- ---- a session for a state
 
@@ -117,17 +125,21 @@ pub record IsRunning (app : Shape) (session : KeptSession) (n : ℕ) : Type 0 wh
   pub observer : is_observer_at (reader app n) ≡ true
   pub ran : did_run (kept_reader session n).dependence ≡ true
 
--- What is kept for the readers is that of the state, and what is alive has its fresh outcome. An expression without a site
--- may be behind in the session: a hit in the cache leaves a body unevaluated, and with it the expressions that the body
--- reads. A state may have an outcome of a site that such an expression hasn't, so these are not compared there.
+-- What is kept for the readers is that of the state, and what is alive has its fresh outcome. An expression without a
+-- site may be behind in the session: a hit in the cache leaves a body unevaluated, and with it the expressions that the
+-- body reads. A state may have an outcome of a site that such an expression hasn't, so these are not compared there.
 pub record StandsForState (app : Shape) (session : KeptSession) (state : SessionState) : Type 0 where
   pub values : session.values ≡ state.values
   pub size : length session.readers ≡ length (readers app)
   pub consistent : IsConsistent app state
-  pub dependences : (n : ℕ) → is_bare (reader app n) ≡ false → IsSameDependence (kept_reader session n).dependence (dependence_of (reader_state state n).dependencies)
-  pub bare_dependences : (n : ℕ) → is_bare (reader app n) ≡ true → IsBehind (kept_reader session n).dependence (dependence_of (reader_state state n).dependencies)
-  pub isolated : (n : ℕ) → is_bare (reader app n) ≡ false → (kept_reader session n).isolated ≡ (reader_state state n).isolated
-  pub outcomes : (n : ℕ) (i : Node) → reader app n ≡ Some i → is_evaluated i ≡ true → is_live (kept_reader session n).dependence ≡ true
+  pub dependences : (n : ℕ) → is_bare (reader app n) ≡ false
+      → IsSameDependence (kept_reader session n).dependence (dependence_of (reader_state state n).dependencies)
+  pub bare_dependences : (n : ℕ) → is_bare (reader app n) ≡ true
+      → IsBehind (kept_reader session n).dependence (dependence_of (reader_state state n).dependencies)
+  pub isolated : (n : ℕ) → is_bare (reader app n) ≡ false
+      → (kept_reader session n).isolated ≡ (reader_state state n).isolated
+  pub outcomes : (n : ℕ) (i : Node) → reader app n ≡ Some i → is_evaluated i ≡ true
+      → is_live (kept_reader session n).dependence ≡ true
       → (kept_reader session n).outcome ≡ fresh_outcome app state.values (isolated_of state) n
   pub running : (n : ℕ) → session.running ≡ Some n → IsRunning app session n
 
@@ -156,7 +168,11 @@ first_outputs (i ∷ more) = first_output ∷ first_outputs more
 
 -- before the first event
 abbrev pub first_kept_flush : Shape → KeptFlush
-first_kept_flush app = record { session = first_session app; outputs = first_outputs (readers app); boards = first_boards app.items }
+first_kept_flush app = record {
+  session = first_session app;
+  outputs = first_outputs (readers app);
+  boards = first_boards app.items;
+}
 
 pub record StandsWholly (app : Shape) (kept : KeptFlush) (state : SessionState) : Type 0 where
   pub session : StandsForState app kept.session state
@@ -168,17 +184,21 @@ pub record StandsWholly (app : Shape) (kept : KeptFlush) (state : SessionState) 
 -- ---- how many readers are missing
 
 abbrev pub fresh_answers : Shape → SessionState → ℕ → Answers
-fresh_answers app state n = record { read = answer_to app state.values (known_expressions app state.values (kept_sites (isolated_of state))); site = kept_sites (isolated_of state) n }
+fresh_answers app state n = record {
+  read = answer_to app state.values (known_expressions app state.values (kept_sites (isolated_of state)));
+  site = kept_sites (isolated_of state) n;
+}
 
 abbrev pub is_missing : KeptSession → SessionState → ℕ → Bool
 is_missing session state n = is_alive (reader_state state n) && not (is_live (kept_reader session n).dependence)
 
--- the readers below a number that are alive in the state and not in the session; a cached one counts only where its keys
--- all come to values
+-- the readers below a number that are alive in the state and not in the session; a cached one counts only where its
+-- keys all come to values
 abbrev pub missing_below : Shape → KeptSession → SessionState → ℕ → ℕ
 missing_below app session state zero = 0
 missing_below app session state (suc n) =
-    missing_below app session state n + (if is_missing session state n then bodies_counted (reader app n) (fresh_answers app state n) else 0)
+    missing_below app session state n
+    + (if is_missing session state n then bodies_counted (reader app n) (fresh_answers app state n) else 0)
 
 abbrev pub missing_readers : Shape → KeptSession → SessionState → ℕ
 missing_readers app session state = missing_below app session state (length (readers app))
@@ -188,15 +208,28 @@ missing_readers app session state = missing_below app session state (length (rea
 abbrev pub kept_from : Shape → SessionState → ℕ → List ReaderState → List KeptReader
 kept_from app state n [] = []
 kept_from app state n (r ∷ rs) =
-    record { dependence = dependence_of r.dependencies; isolated = r.isolated; outcome = fresh_outcome app state.values (isolated_of state) n } ∷ kept_from app state (suc n) rs
+    record {
+      dependence = dependence_of r.dependencies;
+      isolated = r.isolated;
+      outcome = fresh_outcome app state.values (isolated_of state) n;
+    }
+    ∷ kept_from app state (suc n) rs
 
 -- for each reader the outcome that it comes to afresh, where no observer runs
-abbrev pub keeping_all : Shape → SessionState → KeptSession
-keeping_all app state = record { values = state.values; readers = kept_from app state 0 state.readers; running = None }
+abbrev pub session_keeping_all : Shape → SessionState → KeptSession
+session_keeping_all app state = record {
+  values = state.values;
+  readers = kept_from app state 0 state.readers;
+  running = None;
+}
 
 abbrev pub outputs_of : List ReaderState → List KeptOutput
 outputs_of [] = []
 outputs_of (r ∷ rs) = record { shown = r.shown; last = r.last } ∷ outputs_of rs
 
-abbrev pub keeping_wholly : Shape → SessionState → KeptFlush
-keeping_wholly app state = record { session = keeping_all app state; outputs = outputs_of state.readers; boards = state.boards }
+abbrev pub flush_keeping_all : Shape → SessionState → KeptFlush
+flush_keeping_all app state = record {
+  session = session_keeping_all app state;
+  outputs = outputs_of state.readers;
+  boards = state.boards;
+}

@@ -22,40 +22,58 @@ shows_input = record {
 }
 
 -- the output has run, and depends on the input; the observer never ran
-abbrev pub output_ran : SessionState
-output_ran = record {
+abbrev pub state_after_output : SessionState
+state_after_output = record {
   values = Plain (Int (pos 7)) ∷ Plain (Int (pos 0)) ∷ Plain (Int (pos 0)) ∷ [];
-  readers = record first_reader { dependencies = Some (record { sources = 0 ∷ []; changed = false }) } ∷ first_reader ∷ [];
+  readers =
+      record first_reader { dependencies = Some (record { sources = 0 ∷ []; changed = false }) } ∷ first_reader ∷ [];
   boards = [];
 }
 
 -- what is kept for the output, and for the observer nothing
-abbrev pub keeping : KeptReader → KeptSession
-keeping output = record { values = output_ran.values; readers = output ∷ first_kept ∷ []; running = None }
+abbrev pub session_keeping : KeptReader → KeptSession
+session_keeping output = record {
+  values = state_after_output.values;
+  readers = output ∷ first_kept ∷ [];
+  running = None;
+}
 
 abbrev pub output_with : Dependence → Outcome → KeptReader
 output_with dependence outcome = record { dependence = dependence; isolated = []; outcome = outcome }
 
 -- the app has three readers, and the state has none
 abbrev pub StateOfAnotherSize : Type 0
-StateOfAnotherSize = (session : KeptSession) → StandsForState cached_ones session (record all_alive { readers = [] }) → ⊥
+StateOfAnotherSize =
+    (session : KeptSession) → StandsForState cached_ones session (record all_alive { readers = [] }) → ⊥
 
 -- an output is no expression that a hit may leave out
 abbrev pub OutputLeftOut : Type 0
-OutputLeftOut = StandsForState shows_input (keeping first_kept) output_ran → ⊥
+OutputLeftOut = StandsForState shows_input (session_keeping first_kept) state_after_output → ⊥
 
 abbrev pub StaleOutput : Type 0
-StaleOutput = StandsForState shows_input (keeping (output_with stale (Val (Int (pos 7))))) output_ran → ⊥
+StaleOutput =
+    StandsForState shows_input (session_keeping (output_with stale (Val (Int (pos 7))))) state_after_output → ⊥
 
 -- it depends on the width too, which it doesn't read
 abbrev pub OneSourceMore : Type 0
-OneSourceMore = StandsForState shows_input (keeping (output_with (alive (0 ∷ 1 ∷ [])) (Val (Int (pos 7))))) output_ran → ⊥
+OneSourceMore =
+    StandsForState
+    shows_input
+    (session_keeping (output_with (alive (0 ∷ 1 ∷ [])) (Val (Int (pos 7)))))
+    state_after_output
+    → ⊥
 
 -- the output comes to 7
 abbrev pub StaleOutcome : Type 0
-StaleOutcome = StandsForState shows_input (keeping (output_with (alive (0 ∷ [])) (Val (Int (pos 6))))) output_ran → ⊥
+StaleOutcome =
+    StandsForState shows_input (session_keeping (output_with (alive (0 ∷ [])) (Val (Int (pos 6))))) state_after_output
+    → ⊥
 
 -- the observer that is said to run never ran
 abbrev pub RunningThatNeverRan : Type 0
 RunningThatNeverRan =
-    StandsForState shows_input (record (keeping (output_with (alive (0 ∷ [])) (Val (Int (pos 7))))) { running = Some 1 }) output_ran → ⊥
+    StandsForState
+    shows_input
+    (record (session_keeping (output_with (alive (0 ∷ [])) (Val (Int (pos 7))))) { running = Some 1 })
+    state_after_output
+    → ⊥

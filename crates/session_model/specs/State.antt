@@ -28,7 +28,11 @@ first_boards items = map (λ i. idle) (filter is_task items)
 
 -- before the first event
 abbrev pub first_state : Shape → SessionState
-first_state app = record { values = starting_values app.items; readers = first_readers (readers app); boards = first_boards app.items }
+first_state app = record {
+  values = starting_values app.items;
+  readers = first_readers (readers app);
+  boards = first_boards app.items;
+}
 
 abbrev pub isolated_of : SessionState → IsolatedOutcomes
 isolated_of state = map (λ r. r.isolated) state.readers
@@ -46,7 +50,10 @@ sources_in (Some d) = d.sources
 
 -- it has reached these sources, and none of them was changed since
 abbrev pub with_sources : ℕ → List ℕ → SessionState → SessionState
-with_sources n sources state = with_reader n (record (reader_state state n) { dependencies = Some (record { sources = sources; changed = false }) }) state
+with_sources n sources state =
+    with_reader n
+    (record (reader_state state n) { dependencies = Some (record { sources = sources; changed = false }) })
+    state
 
 abbrev pub has_run : ReaderState → Bool
 has_run r = is_some r.dependencies

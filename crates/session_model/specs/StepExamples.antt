@@ -15,7 +15,7 @@ use Rattle.session_model.specs.Alone.{ended, ending, state_after}
 use Rattle.session_model.specs.TakenLines.{taken_line}
 use Rattle.session_model.specs.Transcript.{recv}
 use Rattle.session_model.specs.MissingExample.{all_alive}
-use Rattle.session_model.specs.FaithfulExamples.{empty, counting, init}
+use Rattle.session_model.specs.FaithfulExamples.{empty_app, counting_app, init}
 
 -- ---- changes
 
@@ -33,7 +33,8 @@ with_output = record {
   budget = 1000;
   items =
       input (codes "n") (Int (pos 1))
-      ∷ text (codes "o") (record { priority = pos 0; while_hidden = false; keys = no_trees; body = constant (Int (pos 2)) })
+      ∷ text (codes "o")
+      (record { priority = pos 0; while_hidden = false; keys = no_trees; body = constant (Int (pos 2)) })
       ∷ [];
 }
 
@@ -63,7 +64,8 @@ without_sites = record { budget = 1000; items = reactive (codes "a") no_trees (c
 
 -- its last run had reached a site
 abbrev pub with_a_site : SessionState
-with_a_site = record { values = []; readers = record first_reader { isolated = (0, Val (Int (pos 9))) ∷ [] } ∷ []; boards = [] }
+with_a_site =
+    record { values = []; readers = record first_reader { isolated = (0, Val (Int (pos 9))) ∷ [] } ∷ []; boards = [] }
 
 -- a run keeps the outcomes of the sites that it reaches, and none of an earlier one
 abbrev pub ForgetsSites : Type 0
@@ -71,13 +73,13 @@ ForgetsSites = (reader_state (run_reader without_sites 0 with_a_site).state 0).i
 
 -- a flush makes as many runs as the budget, each of which counts here
 abbrev pub RunsTheBudget : Type 0
-RunsTheBudget = (state_after counting (Text init ∷ [])).values ≡ Plain (Int (pos 3)) ∷ []
+RunsTheBudget = (state_after counting_app (Text init ∷ [])).values ≡ Plain (Int (pos 3)) ∷ []
 
 -- ---- journals
 
 -- what comes behind the end doesn't count
 abbrev pub StaysEnded : Type 0
-StaysEnded = ending empty (Text init ∷ End ∷ Text init ∷ []) ≡ Some ended
+StaysEnded = ending empty_app (Text init ∷ End ∷ Text init ∷ []) ≡ Some ended
 
 -- a journal of so many events that are no texts
 abbrev pub FullOfEvents : Type 0
@@ -90,7 +92,7 @@ FullOfBytes = (t : List ℕ) → is_full (Text t ∷ []) ≡ nat_lt 16777216 (le
 -- ---- the lines that are taken today
 
 abbrev pub LastLineTaken : Type 0
-LastLineTaken = taken_line empty 200 [] (Some (recv (codes "s") init)) ≡ Some (recv (codes "s") init)
+LastLineTaken = taken_line empty_app 200 [] (Some (recv (codes "s") init)) ≡ Some (recv (codes "s") init)
 
 abbrev pub LineTooMany : Type 0
-LineTooMany = taken_line empty 201 [] (Some (recv (codes "s") init)) ≡ None
+LineTooMany = taken_line empty_app 201 [] (Some (recv (codes "s") init)) ≡ None

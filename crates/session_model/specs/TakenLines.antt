@@ -12,8 +12,9 @@ use Rattle.shiny_json.specs.Client.{client_message, is_colon}
 use Rattle.app_tree.specs.Tree.{Node, Shape}
 use Rattle.app_tree.specs.Numbering.{input_number}
 use Rattle.session_model.specs.Lines.{lines_of}
-use Rattle.session_model.specs.Apply.{output_told}
-use Rattle.session_model.specs.Transcript.{Line, recv, line_of, Open, Replayed, replay_from}
+use Rattle.session_model.specs.Apply.{clientdata_output}
+use Rattle.session_model.specs.declared.limits.TheConstants.{TAKEN_LINE_LIMIT}
+use Rattle.session_model.specs.Transcript.{Line, recv, line_of, Open, ReplayResult, replay_from}
 
 -- ---- messages
 
@@ -27,11 +28,14 @@ is_truth _ = false
 
 -- the output whose hiding this name tells
 abbrev pub hidden_output : List ℕ → List Node → Option ℕ
-hidden_output name items = output_told (codes "_hidden") name items
+hidden_output name items = clientdata_output (codes "_hidden") name items
 
 -- a name without a type that sets a declared input or, at the init, tells whether a declared output is hidden
 abbrev pub is_taken_pair : Shape → Bool → List ℕ → Data → Bool
-is_taken_pair app first key d = not (list_any is_colon key) && ((is_some (input_number key app.items) && is_whole d) || (first && is_some (hidden_output key app.items) && is_truth d))
+is_taken_pair app first key d =
+    not (list_any is_colon key)
+    && ((is_some (input_number key app.items) && is_whole d)
+    || (first && is_some (hidden_output key app.items) && is_truth d))
 
 abbrev pub are_taken_pairs : Shape → Bool → Members → Bool
 are_taken_pairs app first no_members = true
@@ -47,7 +51,8 @@ member_count (member key d more) = suc (member_count more)
 
 -- no keys but the method and the data
 abbrev pub is_taken_object : Shape → Bool → Members → Bool
-is_taken_object app first ms = (member_count ms == 2) && has_taken_data app first (option_and_then as_object (get_member (codes "data") ms))
+is_taken_object app first ms =
+    (member_count ms == 2) && has_taken_data app first (option_and_then as_object (get_member (codes "data") ms))
 
 abbrev pub is_taken_json : Shape → Bool → Option Data → Bool
 is_taken_json app first (Some (object ms)) = is_taken_object app first ms
@@ -65,10 +70,6 @@ taken_pairs app first text = if is_taken_json app first (read text) then pairs_s
 
 -- ---- lines
 
--- the most lines
-abbrev pub line_count_limit : ℕ
-line_count_limit = 200
-
 -- no line came before
 abbrev pub is_first : List Open → Bool
 is_first [] = true
@@ -79,17 +80,19 @@ abbrev pub is_of_one : List ℕ → List Open → Bool
 is_of_one label sessions = list_all (λ s. bytes_eq label s.label) sessions
 
 abbrev pub is_taken : Shape → ℕ → List Open → List ℕ → List ℕ → Bool
-is_taken app k sessions label text = nat_le k line_count_limit && is_of_one label sessions && is_some (taken_pairs app (is_first sessions) text)
+is_taken app k sessions label text =
+    nat_le k TAKEN_LINE_LIMIT && is_of_one label sessions && is_some (taken_pairs app (is_first sessions) text)
 
 abbrev pub taken_line : Shape → ℕ → List Open → Option Line → Option Line
-taken_line app k sessions (Some (recv label text)) = if is_taken app k sessions label text then Some (recv label text) else None
+taken_line app k sessions (Some (recv label text)) =
+    if is_taken app k sessions label text then Some (recv label text) else None
 taken_line app k sessions _ = None
 
 -- what line k says, where it is taken, behind these sessions
 abbrev pub taken_by : Shape → ℕ → List Open → List ℕ → Option Line
 taken_by app k sessions line = taken_line app k sessions (line_of app.items line)
 
--- the replay of a transcript of which these lines alone are taken. 200 lines are far shorter than a transcript may be, so
--- that limit is not asked for
-abbrev pub replayed_today : Shape → List ℕ → Replayed
+-- the replay of a transcript of which these lines alone are taken. 200 lines are far shorter than a transcript may be,
+-- so that limit is not asked for
+abbrev pub replayed_today : Shape → List ℕ → ReplayResult
 replayed_today app bytes = replay_from app (taken_by app) 1 [] (lines_of bytes)

@@ -11,7 +11,7 @@ use Rattle.app_tree.specs.Tasks.{task_outcome}
 use Rattle.task_board.specs.declared.job.Invocation.{Invocation}
 use Rattle.task_board.specs.declared.job.Ended.{Ended}
 use Rattle.task_board.specs.declared.job.Ended.TheVariants.{Next, Quiet, Stale}
-use Rattle.task_board.specs.Board.{TaskBoard, AfterEnd, board_at, ended, running_number}
+use Rattle.task_board.specs.Board.{TaskBoard, AfterEnd, board_at, end_result, running_number}
 use Rattle.session_model.specs.State.{SessionState}
 use Rattle.session_model.specs.Change.{change}
 
@@ -32,15 +32,20 @@ abbrev pub see_task : Shape → ℕ → TaskView → SessionState → SessionSta
 see_task app t seen state = change (first_task app + t) (Task seen) state
 
 -- the task shows what the invocation came to; where another one was waiting, it runs in the same event
-abbrev pub shown_after : Shape → ℕ → Outcome → AfterEnd → Ended → SessionState → SessionState
-shown_after app t outcome after Quiet state = with_board t after.board (see_task app t (ended_view outcome) state)
-shown_after app t outcome after (Next job) state = with_board t after.board (see_task app t view.Running (see_task app t (ended_view outcome) state))
-shown_after app t outcome after (Stale number) state = state
+abbrev pub with_end_shown : Shape → ℕ → Outcome → AfterEnd → Ended → SessionState → SessionState
+with_end_shown app t outcome after Quiet state = with_board t after.board (see_task app t (ended_view outcome) state)
+with_end_shown app t outcome after (Next job) state =
+    with_board t after.board (see_task app t view.Running (see_task app t (ended_view outcome) state))
+with_end_shown app t outcome after (Stale number) state = state
 
 abbrev pub end_running : Shape → ℕ → Option Invocation → SessionState → SessionState
 end_running app t None state = state
 end_running app t (Some running) state =
-    shown_after app t (task_outcome app t running.args) (ended t running.number (board_at state.boards t)) (ended t running.number (board_at state.boards t)).answer state
+    with_end_shown app t
+    (task_outcome app t running.args)
+    (end_result t running.number (board_at state.boards t))
+    (end_result t running.number (board_at state.boards t)).answer
+    state
 
 -- the invocation of task t that runs ends
 abbrev pub end_task : Shape → ℕ → SessionState → SessionState

@@ -7,7 +7,7 @@ use Rattle.shiny_json.specs.declared.batch.Batch.{Batch}
 use Rattle.shiny_json.specs.declared.message.Pair.{Pair}
 use Rattle.shiny_json.specs.Server.{config_text, busy_text, progress_text, recalculating_text}
 use Rattle.shiny_json.specs.Values.{values_text}
-use Rattle.session_model.specs.Flush.{Run, FlushEnd, done, Flushed}
+use Rattle.session_model.specs.Flush.{Run, FlushEnd, done, FlushResult}
 
 -- that an output's run is in progress, that it begins and that it has ended
 abbrev pub output_texts : List ℕ → List (List ℕ)
@@ -42,21 +42,21 @@ abbrev pub batch_of : Shape → List Run → Batch
 batch_of app runs = record { outputs = batch_outputs app runs; messages = batch_messages runs }
 
 -- the values and the idle text come where the flush did not end the session
-abbrev pub closing_texts : Shape → Flushed → FlushEnd → List (List ℕ)
+abbrev pub closing_texts : Shape → FlushResult → FlushEnd → List (List ℕ)
 closing_texts app flushed done = values_text (batch_of app flushed.runs) ∷ busy_text false ∷ []
 closing_texts app flushed _ = []
 
-abbrev pub flush_texts : Shape → Flushed → List (List ℕ)
+abbrev pub flush_texts : Shape → FlushResult → List (List ℕ)
 flush_texts app flushed = busy_text true ∷ (run_texts app flushed.runs ++ closing_texts app flushed flushed.end)
 
 -- the first event of a session sends its texts whatever runs
-abbrev pub first_texts : Shape → List ℕ → Flushed → List (List ℕ)
+abbrev pub first_texts : Shape → List ℕ → FlushResult → List (List ℕ)
 first_texts app label flushed = config_text label ∷ flush_texts app flushed
 
 -- a later event in which no output and no observer ran, and which did not end the session, sends nothing
-abbrev pub later_texts_by : Shape → Flushed → List Run → FlushEnd → List (List ℕ)
+abbrev pub later_texts_by : Shape → FlushResult → List Run → FlushEnd → List (List ℕ)
 later_texts_by app flushed [] done = []
 later_texts_by app flushed _ _ = flush_texts app flushed
 
-abbrev pub later_texts : Shape → Flushed → List (List ℕ)
+abbrev pub later_texts : Shape → FlushResult → List (List ℕ)
 later_texts app flushed = later_texts_by app flushed flushed.runs flushed.end

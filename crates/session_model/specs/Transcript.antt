@@ -11,18 +11,11 @@ use Rattle.session_model.specs.declared.event.Event.{Event}
 use Rattle.session_model.specs.declared.event.Event.TheVariants.{Text, TaskEnd, End}
 use Rattle.session_model.specs.Alone.{Ending, ended, refused, budget_spent, observer_failed, answers, ending, state_after}
 use Rattle.session_model.specs.Journal.{is_full}
-use Rattle.session_model.specs.Lines.{line_limit, lines_of, is_space, is_label, has_space}
+use Rattle.session_model.specs.Lines.{lines_of, is_space, is_label, has_space}
 use Rattle.session_model.specs.WrittenLines.{cause_name, send_lines, over_text}
+use Rattle.session_model.specs.declared.limits.TheConstants.{LINE_LIMIT, TRANSCRIPT_LIMIT, SESSION_LIMIT}
 
 -- ---- lines
-
--- the most bytes of a transcript
-abbrev pub transcript_limit : ℕ
-transcript_limit = 67108864
-
--- the most names of sessions
-abbrev pub session_limit : ℕ
-session_limit = 64
 
 abbrev pub is_feed : ℕ → Bool
 is_feed b = b == 10
@@ -30,7 +23,9 @@ is_feed b = b == 10
 -- the number of the line that holds the first byte past the limit, with its line feed counted as its own
 abbrev pub line_past_limit : List ℕ → Option ℕ
 line_past_limit bytes =
-    if nat_lt transcript_limit (length bytes) then Some (suc (length (filter is_feed (take transcript_limit bytes)))) else None
+    if nat_lt TRANSCRIPT_LIMIT (length bytes)
+    then Some (suc (length (filter is_feed (take TRANSCRIPT_LIMIT bytes))))
+    else None
 
 -- a client message for a session, the end of what runs of a task of it, or the end of its link
 pub data Line : Type 0 where
@@ -49,7 +44,9 @@ ends_of label (Some t) = Some (ends label t)
 -- by the word behind the label, and what follows one space behind it, which may be empty
 abbrev pub line_by : List Node → List ℕ → List ℕ → List ℕ → Option Line
 line_by items label word rest =
-    if bytes_eq word (codes "recv") then Some (recv label rest) else (if bytes_eq word (codes "end") then ends_of label (task_named rest items) else None)
+    if bytes_eq word (codes "recv")
+    then Some (recv label rest)
+    else (if bytes_eq word (codes "end") then ends_of label (task_named rest items) else None)
 
 -- behind the label and a space
 abbrev pub line_behind : List Node → List ℕ → List ℕ → Option Line
@@ -60,11 +57,13 @@ line_behind items label rest =
 
 abbrev pub parts_of : List Node → List ℕ → Option Line
 parts_of items line =
-    if has_space line && is_label (before_first is_space line) then line_behind items (before_first is_space line) (after_first is_space line) else None
+    if has_space line && is_label (before_first is_space line)
+    then line_behind items (before_first is_space line) (after_first is_space line)
+    else None
 
 -- what a line says; None where it has no such form
 abbrev pub line_of : List Node → List ℕ → Option Line
-line_of items line = if nat_le (length line) line_limit && is_utf8 line then parts_of items line else None
+line_of items line = if nat_le (length line) LINE_LIMIT && is_utf8 line then parts_of items line else None
 
 -- ---- sessions
 
@@ -74,8 +73,8 @@ pub record Open : Type 0 where
   pub journal : List Event
   pub full : Bool
 
-abbrev pub opened : List ℕ → Open
-opened label = record { label = label; journal = []; full = false }
+abbrev pub new_session : List ℕ → Open
+new_session label = record { label = label; journal = []; full = false }
 
 abbrev pub is_over : Shape → Open → Bool
 is_over app s = s.full || is_some (ending app s.journal)
@@ -112,25 +111,26 @@ added_texts app label journal longer = drop (length (answers app label journal))
 -- what a session's event writes: the texts that it adds, then the over line where the session has ended
 abbrev pub event_output : Shape → Event → Open → List ℕ
 event_output app event s =
-    send_lines s.label (added_texts app s.label s.journal (with_event event s).journal) ++ over_line s.label (ending app (with_event event s).journal)
+    send_lines s.label (added_texts app s.label s.journal (with_event event s).journal)
+    ++ over_line s.label (ending app (with_event event s).journal)
 
 -- a session behind an event, and what was written
-pub record Stepped : Type 0 where
+pub record StepResult : Type 0 where
   pub output : List ℕ
   pub session : Open
 
 -- a session whose journal is full is over in place of the event
-abbrev pub step_by : Bool → Shape → Event → Open → Stepped
+abbrev pub step_by : Bool → Shape → Event → Open → StepResult
 step_by true app event s = record { output = over_text s.label (codes "journal"); session = record s { full = true } }
 step_by false app event s = record { output = event_output app event s; session = with_event event s }
 
-abbrev pub step : Shape → Event → Open → Stepped
+abbrev pub step : Shape → Event → Open → StepResult
 step app event s = step_by (is_full s.journal) app event s
 
 -- ---- a line
 
--- how a replay ends: all lines were taken, or the first one that was refused, by its number from 1, has no form, is for no
--- open session, or ends a task that doesn't run
+-- how a replay ends: all lines were taken, or the first one that was refused, by its number from 1, has no form, is for
+-- no open session, or ends a task that doesn't run
 pub data ReplayEnd : Type 0 where
   done : ReplayEnd
   bad_line : ℕ → ReplayEnd
@@ -147,9 +147,9 @@ abbrev pub still_open : Shape → Option Open → Option Open
 still_open app None = None
 still_open app (Some s) = if is_over app s then None else Some s
 
--- the first message of a name opens its session, but a 65th name opens none
+-- the first message of a name opens its session, but one name more than the limit opens none
 abbrev pub open_or_new : Shape → List ℕ → List Open → Option Open → Option Open
-open_or_new app label sessions None = if nat_le session_limit (length sessions) then None else Some (opened label)
+open_or_new app label sessions None = if nat_le SESSION_LIMIT (length sessions) then None else Some (new_session label)
 open_or_new app label sessions (Some s) = still_open app (Some s)
 
 abbrev pub taken_by_open : ℕ → Event → Option Open → LineTaken
@@ -168,65 +168,72 @@ task_ends app k t (Some s) = running_ends k t s (running_number (board_at (state
 -- which session takes which event of line k, by what the line says, or why the line is refused
 abbrev pub line_taken : Shape → ℕ → List Open → Option Line → LineTaken
 line_taken app k sessions None = refuses (bad_line k)
-line_taken app k sessions (Some (recv label t)) = taken_by_open k (Text t) (open_or_new app label sessions (session_of label sessions))
+line_taken app k sessions (Some (recv label t)) =
+    taken_by_open k (Text t) (open_or_new app label sessions (session_of label sessions))
 line_taken app k sessions (Some (ends label t)) = task_ends app k t (still_open app (session_of label sessions))
 line_taken app k sessions (Some (closes label)) = taken_by_open k End (still_open app (session_of label sessions))
 
 -- ---- the replay
 
 -- what was written, the sessions with their journals, in the order in which they were opened, and how the replay ended
-pub record Replayed : Type 0 where
+pub record ReplayResult : Type 0 where
   pub output : List ℕ
   pub sessions : List Open
   pub end : ReplayEnd
 
 -- what follows, where the sessions have come so far
 abbrev pub Rest : Type 0
-Rest = List Open → Replayed
+Rest = List Open → ReplayResult
 
-abbrev pub stopped : List Open → ReplayEnd → Replayed
-stopped sessions end = record { output = []; sessions = sessions; end = end }
+abbrev pub ended_replay : List Open → ReplayEnd → ReplayResult
+ended_replay sessions end = record { output = []; sessions = sessions; end = end }
 
-abbrev pub after_output : List ℕ → Replayed → Replayed
+abbrev pub after_output : List ℕ → ReplayResult → ReplayResult
 after_output before r = record r { output = before ++ r.output }
 
 -- at the end of the input the link of a session ends that is open
-abbrev pub closed_by : Bool → Shape → Open → Stepped
-closed_by true app s = record { output = []; session = s }
-closed_by false app s = step app End s
+abbrev pub closing_step : Bool → Shape → Open → StepResult
+closing_step true app s = record { output = []; session = s }
+closing_step false app s = step app End s
 
-abbrev pub with_closed : Stepped → Replayed → Replayed
-with_closed closed r = record { output = closed.output ++ r.output; sessions = closed.session ∷ r.sessions; end = r.end }
+abbrev pub with_closing_step : StepResult → ReplayResult → ReplayResult
+with_closing_step closed r = record {
+  output = closed.output ++ r.output;
+  sessions = closed.session ∷ r.sessions;
+  end = r.end;
+}
 
-abbrev pub all_closed : Shape → List Open → Replayed
-all_closed app [] = record { output = []; sessions = []; end = done }
-all_closed app (s ∷ more) = with_closed (closed_by (is_over app s) app s) (all_closed app more)
+abbrev pub closing_replay : Shape → List Open → ReplayResult
+closing_replay app [] = record { output = []; sessions = []; end = done }
+closing_replay app (s ∷ more) = with_closing_step (closing_step (is_over app s) app s) (closing_replay app more)
 
-abbrev pub stepped : List Open → Stepped → Rest → Replayed
-stepped sessions after next = after_output after.output (next (with_session after.session sessions))
+abbrev pub replay_after_step : List Open → StepResult → Rest → ReplayResult
+replay_after_step sessions after next = after_output after.output (next (with_session after.session sessions))
 
 -- the session that takes the event steps, and what follows goes on behind it
-abbrev pub goes_by : Shape → List Open → LineTaken → Rest → Replayed
-goes_by app sessions (refuses end) next = stopped sessions end
-goes_by app sessions (takes event s) next = stepped sessions (step app event s) next
+abbrev pub replay_after_line : Shape → List Open → LineTaken → Rest → ReplayResult
+replay_after_line app sessions (refuses end) next = ended_replay sessions end
+replay_after_line app sessions (takes event s) next = replay_after_step sessions (step app event s) next
 
 -- line k, which says this
-abbrev pub replay_line : Shape → ℕ → List Open → Option Line → Rest → Replayed
-replay_line app k sessions said next = goes_by app sessions (line_taken app k sessions said) next
+abbrev pub replay_line : Shape → ℕ → List Open → Option Line → Rest → ReplayResult
+replay_line app k sessions said next = replay_after_line app sessions (line_taken app k sessions said) next
 
 abbrev pub is_line : ℕ → Option ℕ → Bool
 is_line k None = false
 is_line k (Some j) = k == j
 
 -- what line k says, unless it is the one that goes past the limit of the transcript
-abbrev pub said_by : Shape → Option ℕ → ℕ → List Open → List ℕ → Option Line
-said_by app past k sessions line = if is_line k past then None else line_of app.items line
+abbrev pub line_unless_past : Shape → Option ℕ → ℕ → List Open → List ℕ → Option Line
+line_unless_past app past k sessions line = if is_line k past then None else line_of app.items line
 
--- these lines, the first of which has number k, where `said` tells what a line says by its number and the sessions before it
-abbrev pub replay_from : Shape → (ℕ → List Open → List ℕ → Option Line) → ℕ → List Open → List (List ℕ) → Replayed
-replay_from app said k sessions [] = all_closed app sessions
-replay_from app said k sessions (line ∷ more) = replay_line app k sessions (said k sessions line) (λ next. replay_from app said (suc k) next more)
+-- these lines, the first of which has number k, where `said` tells what a line says by its number and the sessions
+-- before it
+abbrev pub replay_from : Shape → (ℕ → List Open → List ℕ → Option Line) → ℕ → List Open → List (List ℕ) → ReplayResult
+replay_from app said k sessions [] = closing_replay app sessions
+replay_from app said k sessions (line ∷ more) =
+    replay_line app k sessions (said k sessions line) (λ next. replay_from app said (suc k) next more)
 
 -- the output of a transcript's replay, the journals of its sessions, and how it ends
-abbrev pub replayed : Shape → List ℕ → Replayed
-replayed app bytes = replay_from app (said_by app (line_past_limit bytes)) 1 [] (lines_of bytes)
+abbrev pub replayed : Shape → List ℕ → ReplayResult
+replayed app bytes = replay_from app (line_unless_past app (line_past_limit bytes)) 1 [] (lines_of bytes)

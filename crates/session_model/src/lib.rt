@@ -8,6 +8,7 @@
 
 mod event;
 mod examples;
+mod limits;
 mod reason;
 mod state;
 
@@ -15,6 +16,10 @@ pub use event::Event;
 pub use examples::{
     counts_missing_readers, faithful_examples, standing_examples, step_examples,
     unfaithful_examples,
+};
+pub use limits::{
+    EVENT_LIMIT, JOURNAL_TEXT_LIMIT, LABEL_LIMIT, LINE_LIMIT, SESSION_LIMIT, TAKEN_LINE_LIMIT,
+    TRANSCRIPT_LIMIT,
 };
 pub use reason::Reason;
 pub use state::{Dependencies, ReaderState};

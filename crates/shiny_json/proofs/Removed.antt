@@ -6,13 +6,13 @@ use Rattle.std.specs.Cmp.Lexicographic.{slice_cmp}
 use Rattle.std.specs.Map.{remove_entry}
 use Rattle.serde_json.specs.View.{members_view}
 use Rattle.serde_json.specs.declared.value.Value.{Value}
-use Rattle.shiny_json.specs.Values.{without}
+use Rattle.shiny_json.specs.Values.{without_member}
 
 members_view-cond : (b : Bool) (xs ys : List (String Global × Value)) → members_view (cond b xs ys) ≡ cond b (members_view xs) (members_view ys)
 members_view-cond true xs ys = refl
 members_view-cond false xs ys = refl
 
-pub members_view-remove_entry : (name : List ℕ) (es : List (String Global × Value)) → members_view (remove_entry (is_at (λ k. slice_cmp nat_cmp name (string_bytes k))) es) ≡ without name (members_view es)
+pub members_view-remove_entry : (name : List ℕ) (es : List (String Global × Value)) → members_view (remove_entry (is_at (λ k. slice_cmp nat_cmp name (string_bytes k))) es) ≡ without_member name (members_view es)
 members_view-remove_entry name [] = refl
 members_view-remove_entry name (e ∷ es) =
     members_view-cond _ es (e ∷ remove_entry (is_at (λ k. slice_cmp nat_cmp name (string_bytes k))) es)

@@ -1,6 +1,6 @@
 -- No values text has a fraction.
 use Rattle.std.proofs.Common.{◌≡◌, ℕ, ℤ, pos, negsuc, List, [], ◌∷◌, Bool, true, false, Ordering, Less, Equal, Greater, nat_cmp, bytes_eq, cond, refl, true≢false}
-use Rattle.std.specs.Prelude.{◌||◌}
+use Rattle.std.specs.Prelude.{⊤, ◌||◌}
 use Rattle.std.specs.Cmp.Lexicographic.{slice_cmp}
 use Rattle.std.specs.Ordering.{match_ordering}
 use Rattle.serde_json.specs.Data.{Data, Members, no_members, member, put}
@@ -12,7 +12,7 @@ use Rattle.rx_value.specs.declared.outcome.Outcome.{Outcome}
 use Rattle.rx_value.specs.declared.outcome.Outcome.TheVariants.{Val, Fail, Stop, Cancel, Running}
 use Rattle.shiny_json.specs.declared.message.Pair.{Pair}
 use Rattle.shiny_json.specs.declared.batch.BatchOutput.{BatchOutput}
-use Rattle.shiny_json.specs.Values.{Entry, shown, failed, unsaid, Parts, no_parts, without, with_entry, with_outputs, outcome_entry, numbers_items, value_data, input_message_data, input_messages_items, values_data}
+use Rattle.shiny_json.specs.Values.{Entry, shown, failed, unsaid, Parts, no_parts, without_member, with_entry, with_outputs, outcome_entry, numbers_items, value_data, input_message_data, input_messages_items, values_data}
 
 either : (a b : Bool) → a ≡ false → b ≡ false → (a || b) ≡ false
 either true b e f = absurd (true≢false e)
@@ -47,20 +47,20 @@ members_have_float-put k d (member l x ms) e f =
     (either (has_float d) (members_have_float ms) e later)
     (either (has_float x) (members_have_float (put k d ms)) here (members_have_float-put k d ms e later))
 
-members_have_float-without : (k : List ℕ) (ms : Members) → members_have_float ms ≡ false → members_have_float (without k ms) ≡ false
-members_have_float-without k no_members f = refl
-members_have_float-without k (member l x ms) f =
+members_have_float-without_member : (k : List ℕ) (ms : Members) → members_have_float ms ≡ false → members_have_float (without_member k ms) ≡ false
+members_have_float-without_member k no_members f = refl
+members_have_float-without_member k (member l x ms) f =
     let here = first_of (has_float x) (members_have_float ms) f in
     let later = second_of (has_float x) (members_have_float ms) f in
-    members_have_float-cond (bytes_eq k l) ms (member l x (without k ms)) later
-    (either (has_float x) (members_have_float (without k ms)) here (members_have_float-without k ms later))
+    members_have_float-cond (bytes_eq k l) ms (member l x (without_member k ms)) later
+    (either (has_float x) (members_have_float (without_member k ms)) here (members_have_float-without_member k ms later))
 
 -- ---- outputs
 
 abbrev IsWholeEntry : Entry → Type 0
 IsWholeEntry (shown d) = has_float d ≡ false
 IsWholeEntry (failed d) = has_float d ≡ false
-IsWholeEntry unsaid = Unit {0}
+IsWholeEntry unsaid = ⊤
 
 record AreWhole (parts : Parts) : Type 0 where
   errors : members_have_float parts.errors ≡ false
@@ -79,8 +79,8 @@ outcome_entry-whole plot Cancel = tt
 outcome_entry-whole plot Running = tt
 
 with_entry-whole : (name : List ℕ) (e : Entry) (parts : Parts) → IsWholeEntry e → AreWhole parts → AreWhole (with_entry name e parts)
-with_entry-whole name (shown d) parts e f = record { errors = members_have_float-without name parts.errors f.errors; values = members_have_float-put name d parts.values e f.values }
-with_entry-whole name (failed d) parts e f = record { errors = members_have_float-put name d parts.errors e f.errors; values = members_have_float-without name parts.values f.values }
+with_entry-whole name (shown d) parts e f = record { errors = members_have_float-without_member name parts.errors f.errors; values = members_have_float-put name d parts.values e f.values }
+with_entry-whole name (failed d) parts e f = record { errors = members_have_float-put name d parts.errors e f.errors; values = members_have_float-without_member name parts.values f.values }
 with_entry-whole name unsaid parts e f = f
 
 with_outputs-whole : (os : List BatchOutput) (parts : Parts) → AreWhole parts → AreWhole (with_outputs os parts)

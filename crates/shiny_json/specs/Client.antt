@@ -7,14 +7,12 @@ use Rattle.serde_json.specs.Find.{get_member, as_str, as_object, as_i64}
 use Rattle.serde_json.specs.Read.{read}
 use Rattle.rx_value.specs.declared.value.Value.{Value}
 use Rattle.rx_value.specs.declared.value.Value.TheVariants as v
+use Rattle.rx_value.specs.declared.limits.TheConstants.{LIST_LIMIT}
+use Rattle.shiny_json.specs.declared.limits.TheConstants.{MESSAGE_LIMIT}
 use Rattle.shiny_json.specs.declared.message.Pair.{Pair}
 use Rattle.shiny_json.specs.declared.message.Client.{Client}
 use Rattle.shiny_json.specs.declared.message.Client.TheVariants.{Init, Update, Refused}
 use Rattle.shiny_json.specs.declared.message.BadMessage.TheVariants as bad
-
--- the most bytes that a client message may have
-abbrev pub message_limit : ℕ
-message_limit = 65536
 
 -- ---- values
 
@@ -39,7 +37,7 @@ whole_numbers (item d ds) = with_number (whole_number d) (whole_numbers ds)
 -- a list has 1 to 1,000 numbers
 abbrev pub list_value : Option (List ℤ) → Value
 list_value None = v.Null
-list_value (Some zs) = if nat_lt 0 (length zs) && nat_le (length zs) 1000 then v.Ints zs else v.Null
+list_value (Some zs) = if nat_lt 0 (length zs) && nat_le (length zs) LIST_LIMIT then v.Ints zs else v.Null
 
 abbrev pub json_value : Data → Value
 json_value null = v.Null
@@ -63,7 +61,8 @@ is_colon b = b == 58
 
 -- the name ends before the first colon, and what follows the colon is the type
 abbrev pub pair_of : List ℕ → Data → Pair
-pair_of key d = record { name = before_first is_colon key; value = typed_value (after_first is_colon key) (json_value d) }
+pair_of key d =
+    record { name = before_first is_colon key; value = typed_value (after_first is_colon key) (json_value d) }
 
 -- in the byte order of the keys, which is that of the members
 abbrev pub pairs_of : Members → List Pair
@@ -79,11 +78,15 @@ message_with_data false (Some ms) = Update (pairs_of ms)
 
 abbrev pub message_with_method : Option (List ℕ) → Option Members → Client
 message_with_method None ms = Refused bad.NoMethod
-message_with_method (Some method) ms = if bytes_eq method (codes "init") then message_with_data true ms else (if bytes_eq method (codes "update") then message_with_data false ms else Refused bad.BadMethod)
+message_with_method (Some method) ms =
+    if bytes_eq method (codes "init") then message_with_data true ms else (
+    if bytes_eq method (codes "update") then message_with_data false ms else Refused bad.BadMethod)
 
 -- the causes are tested in this order: JSON, an object, its method, its data
 abbrev pub object_message : Members → Client
-object_message ms = message_with_method (option_and_then as_str (get_member (codes "method") ms)) (option_and_then as_object (get_member (codes "data") ms))
+object_message ms =
+    message_with_method (option_and_then as_str (get_member (codes "method") ms))
+    (option_and_then as_object (get_member (codes "data") ms))
 
 abbrev pub json_message : Option Data → Client
 json_message (Some (object ms)) = object_message ms
@@ -92,4 +95,4 @@ json_message None = Refused bad.NotJson
 
 -- a client message that is read by itself; whether it may come at this point is the session's matter
 abbrev pub client_message : List ℕ → Client
-client_message text = if nat_le (length text) message_limit then json_message (read text) else Refused bad.TooLong
+client_message text = if nat_le (length text) MESSAGE_LIMIT then json_message (read text) else Refused bad.TooLong

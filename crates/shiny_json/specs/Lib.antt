@@ -1,5 +1,5 @@
 pub mod Server
 pub mod Values
 pub mod Client
-pub mod Held
 pub mod Told
+pub mod inner

@@ -12,13 +12,13 @@ or_earlier (failed d) earlier = failed d
 or_earlier unsaid earlier = earlier
 
 -- what one run tells of the output of this name
-abbrev pub told : List ℕ → BatchOutput → Entry
-told name o = if bytes_eq name o.name then outcome_entry o.plot o.outcome else unsaid
+abbrev pub entry_told : List ℕ → BatchOutput → Entry
+entry_told name o = if bytes_eq name o.name then outcome_entry o.plot o.outcome else unsaid
 
 -- what the last run that tells something of it tells
 abbrev pub last_told : List ℕ → List BatchOutput → Entry
 last_told name [] = unsaid
-last_told name (o ∷ more) = or_earlier (last_told name more) (told name o)
+last_told name (o ∷ more) = or_earlier (last_told name more) (entry_told name o)
 
 abbrev pub value_told : Entry → Option Data
 value_told (shown d) = Some d
@@ -37,4 +37,5 @@ pub record Tells (name : List ℕ) (e : Entry) (parts : Parts) : Type 0 where
 
 -- under each name the parts that outputs make hold what its last run tells
 abbrev pub TellTheLast : Type 0
-TellTheLast = (outputs : List BatchOutput) (name : List ℕ) → Tells name (last_told name outputs) (with_outputs outputs no_parts)
+TellTheLast =
+    (outputs : List BatchOutput) (name : List ℕ) → Tells name (last_told name outputs) (with_outputs outputs no_parts)

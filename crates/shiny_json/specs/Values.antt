@@ -27,7 +27,9 @@ failure_data text = one_member (codes "message") (string text)
 
 -- a silent stop
 abbrev pub silent_data : Data
-silent_data = object (member (codes "message") (string []) (member (codes "type") (array (item (string (codes "shiny.silent.error")) no_items)) no_members))
+silent_data =
+    object (member (codes "message") (string [])
+    (member (codes "type") (array (item (string (codes "shiny.silent.error")) no_items)) no_members))
 
 -- an SVG text as a data URI (RFC 2397), in the standard base64 with padding (RFC 4648)
 abbrev pub image_data : List ℕ → Data
@@ -60,14 +62,17 @@ abbrev pub no_parts : Parts
 no_parts = record { errors = no_members; values = no_members }
 
 -- the members but for the one of this key
-abbrev pub without : List ℕ → Members → Members
-without key no_members = no_members
-without key (member other d more) = if bytes_eq key other then more else member other d (without key more)
+abbrev pub without_member : List ℕ → Members → Members
+without_member key no_members = no_members
+without_member key (member other d more) =
+    if bytes_eq key other then more else member other d (without_member key more)
 
 -- a later outcome of an output takes the place of an earlier one
 abbrev pub with_entry : List ℕ → Entry → Parts → Parts
-with_entry name (shown d) parts = record { errors = without name parts.errors; values = put name d parts.values }
-with_entry name (failed d) parts = record { errors = put name d parts.errors; values = without name parts.values }
+with_entry name (shown d) parts =
+    record { errors = without_member name parts.errors; values = put name d parts.values }
+with_entry name (failed d) parts =
+    record { errors = put name d parts.errors; values = without_member name parts.values }
 with_entry name unsaid parts = parts
 
 abbrev pub with_outputs : List BatchOutput → Parts → Parts
@@ -89,7 +94,9 @@ value_data (v.Text t) = string t
 value_data (v.Ints zs) = array (numbers_items zs)
 
 abbrev pub input_message_data : Pair → Data
-input_message_data p = object (member (codes "id") (string p.name) (member (codes "message") (one_member (codes "value") (value_data p.value)) no_members))
+input_message_data p =
+    object (member (codes "id") (string p.name)
+    (member (codes "message") (one_member (codes "value") (value_data p.value)) no_members))
 
 abbrev pub input_messages_items : List Pair → Items
 input_messages_items [] = no_items
@@ -98,7 +105,10 @@ input_messages_items (p ∷ more) = item (input_message_data p) (input_messages_
 -- ---- the text
 
 abbrev pub values_data : Parts → List Pair → Data
-values_data parts messages = object (member (codes "errors") (object parts.errors) (member (codes "inputMessages") (array (input_messages_items messages)) (member (codes "values") (object parts.values) no_members)))
+values_data parts messages =
+    object (member (codes "errors") (object parts.errors)
+    (member (codes "inputMessages") (array (input_messages_items messages))
+    (member (codes "values") (object parts.values) no_members)))
 
 abbrev pub values_text : Batch → List ℕ
 values_text batch = compact_text (values_data (with_outputs batch.outputs no_parts) batch.messages)

@@ -3,16 +3,11 @@ ghost use Rattle.std.specs.List.{before_first, after_first};
 ghost use Rattle.serde_json.specs.View.{view, items_view, members_view};
 ghost use Rattle.shiny_json.specs.Client.{whole_number, whole_numbers, list_value, json_value, action_value, typed_value, is_colon, pair_of, pairs_of, message_with_data, message_with_method, json_message, client_message};
 
+use crate::limits::MESSAGE_LIMIT;
 use crate::message::{BadMessage, Client, ClientData, Pair};
-use rx_value::{Memory, RxInts, RxText, Value};
+use rx_value::{LIST_LIMIT, Memory, RxInts, RxText, Value};
 use serde_json::{Map, Value as Json};
 use std::alloc::Global;
-
-/// The most bytes that a client message may have.
-const MESSAGE_LIMIT: usize = 65_536;
-
-/// The most numbers that a list may have.
-const LIST_LIMIT: usize = 1_000;
 
 fn whole_number(json: &Json) -> Option<i64>
     ensures { result ≡ whole_number (view json.now) }

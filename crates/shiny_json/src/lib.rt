@@ -8,15 +8,15 @@
 mod batch;
 mod client;
 mod laws;
+mod limits;
 mod message;
 mod server;
-#[cfg(test)]
-mod tests;
 mod values;
 
 pub use batch::{Batch, BatchOutput, BatchOutputs, Messages};
 pub use client::{client_of, read_client};
 pub use laws::values_laws;
+pub use limits::MESSAGE_LIMIT;
 pub use message::{BadMessage, Client, ClientData, Pair};
 pub use server::{write_busy, write_config, write_progress, write_recalc};
 pub use values::write_values;

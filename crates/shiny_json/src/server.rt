@@ -8,7 +8,7 @@ use serde_json::{Value as Json, json};
 use std::alloc::{AllocError, Global};
 
 /// The compact text of a value without fractions.
-pub(crate) fn text_of(alloc: Global, json: &Json) -> Result<RxText, Memory>
+pub(crate) fn json_text(alloc: Global, json: &Json) -> Result<RxText, Memory>
     requires { has_float (view json.now) ≡ false }
     ensures { IfOk result (λ t. t ≡ compact_text (view json.now)) }
 {
@@ -51,7 +51,7 @@ pub fn write_config(alloc: Global, label: &RxText) -> Result<RxText, Memory>
     ensures { IfOk result (λ t. t ≡ config_text label.now) }
 {
     let json = config_json(alloc, label.as_str())?;
-    text_of(alloc, &json)
+    json_text(alloc, &json)
 }
 
 /// Where `busy`, that runs begin; else that they have ended.
@@ -59,7 +59,7 @@ pub fn write_busy(alloc: Global, busy: bool) -> Result<RxText, Memory>
     ensures { IfOk result (λ t. t ≡ busy_text busy) }
 {
     let json = busy_json(alloc, busy)?;
-    text_of(alloc, &json)
+    json_text(alloc, &json)
 }
 
 /// That the run of the output `name` is in progress, which the client shows beside the output.
@@ -67,7 +67,7 @@ pub fn write_progress(alloc: Global, name: &RxText) -> Result<RxText, Memory>
     ensures { IfOk result (λ t. t ≡ progress_text name.now) }
 {
     let json = progress_json(alloc, name.as_str())?;
-    text_of(alloc, &json)
+    json_text(alloc, &json)
 }
 
 /// That the run of the output `name` begins, or where `done`, that it has ended.
@@ -75,5 +75,5 @@ pub fn write_recalc(alloc: Global, name: &RxText, done: bool) -> Result<RxText, 
     ensures { IfOk result (λ t. t ≡ recalculating_text name.now done) }
 {
     let json = recalculating_json(alloc, name.as_str(), done)?;
-    text_of(alloc, &json)
+    json_text(alloc, &json)
 }

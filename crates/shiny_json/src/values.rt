@@ -1,12 +1,12 @@
 ghost use Rattle.std.specs.Prelude.{◌≡◌, IfOk, OnOk};
 ghost use Rattle.serde_json.specs.Data.{array};
 ghost use Rattle.serde_json.specs.View.{view, members_view};
-ghost use Rattle.shiny_json.specs.Held.{entry_of, parts_of};
-ghost use Rattle.shiny_json.specs.Values.{failure_data, silent_data, image_data, plot_entry, value_entry, outcome_entry, no_parts, without, with_entry, with_outputs, numbers_items, value_data, input_message_data, input_messages_items, values_data, values_text};
+ghost use Rattle.shiny_json.specs.inner.Held.{entry_of, parts_of};
+ghost use Rattle.shiny_json.specs.Values.{failure_data, silent_data, image_data, plot_entry, value_entry, outcome_entry, no_parts, without_member, with_entry, with_outputs, numbers_items, value_data, input_message_data, input_messages_items, values_data, values_text};
 
 use crate::batch::{Batch, BatchOutput};
 use crate::message::Pair;
-use crate::server::text_of;
+use crate::server::json_text;
 use base64::engine::general_purpose::STANDARD;
 use rx_value::{Memory, Outcome, RxText, Value, show};
 use serde_json::{Map, Value as Json, json, put};
@@ -81,7 +81,7 @@ fn outcome_entry(alloc: Global, plot: bool, outcome: &Outcome) -> Result<OutputE
 
 fn remove(members: &mut Map<String, Json>, name: &str)
     ensures { members_view members.new.entries
-        ≡ without name.now (members_view members.old.entries) }
+        ≡ without_member name.now (members_view members.old.entries) }
 {
     drop(members.remove(name));
 }
@@ -183,5 +183,5 @@ pub fn write_values(alloc: Global, batch: &Batch) -> Result<RxText, Memory>
 {
     let parts = output_parts(alloc, batch.outputs.as_slice())?;
     let json = values_json(alloc, parts, batch.messages.as_slice())?;
-    text_of(alloc, &json)
+    json_text(alloc, &json)
 }

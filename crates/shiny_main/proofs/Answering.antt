@@ -6,8 +6,8 @@ use Rattle.shiny_json.specs.declared.message.Pair.{Pair}
 use Rattle.shiny_json.specs.declared.message.Client.TheVariants.{Update}
 use Rattle.shiny_json.specs.Client.{client_message}
 use Rattle.session_model.specs.declared.event.Event.TheVariants.{Text}
-use Rattle.session_model.specs.Flush.{Flushed as FlushResult}
-use Rattle.session_model.specs.Alone.{JournalResult, flushes, effect, effect_texts, effect_from, message_effect, result_after, flush_ending, applied, journal_result, ending}
+use Rattle.session_model.specs.Flush.{FlushResult}
+use Rattle.session_model.specs.Alone.{JournalResult, flushes, effect, effect_texts, effect_from, message_effect, result_after, flush_ending, flush_with_pairs, journal_result, ending}
 use Rattle.session_model.specs.Transcript.{Open, with_event, event_output, over_line, added_texts}
 use Rattle.session_model.specs.WrittenLines.{send_lines}
 use Rattle.session_laws.proofs.Journals.{journal_result-more, added_texts-more}
@@ -15,7 +15,7 @@ use Rattle.flush_cycle.specs.declared.stage.Stage.TheVariants as stage
 use Rattle.flush_cycle.specs.Flushing.{FlushGives, flushed_by, stage_after}
 use Rattle.shiny_main.specs.declared.session.OpenSession.{OpenSession}
 use Rattle.shiny_main.specs.declared.session.Answered.{Answered}
-use Rattle.shiny_main.specs.Replaying.{EndsSo, HoldsOpen, budget_line, event_lines, AnswersText}
+use Rattle.shiny_main.specs.inner.Replaying.{EndsSo, HoldsOpen, budget_line, event_lines, AnswersText}
 
 -- the course after a text that flushes
 abbrev flushed_result : JournalResult → Bool → FlushResult → JournalResult
@@ -68,9 +68,9 @@ answers_text app s text first f texts false answered e open_ label of_app gives 
 
 -- what an update does to a session that goes on
 pub update_effect : (app : Shape) (s : Open) (text : List ℕ) (pairs : List Pair) (code : OpenSession) → HoldsOpen app s code → code.flusher.stage ≡ stage.Open → client_message text ≡ Update pairs
-    → effect app (journal_result app s.journal) (Text text) ≡ flushes false (applied app pairs code.flusher.state)
+    → effect app (journal_result app s.journal) (Text text) ≡ flushes false (flush_with_pairs app pairs code.flusher.state)
 update_effect app s text pairs code holds at e =
     let course = journal_result app s.journal in
     let none : course.ending ≡ None = subst (λ b. EndsSo b course.ending) at holds.ending in
     ap (λ o. effect_from app course o (Text text)) none ∙ ap (λ b. message_effect app b course.state (client_message text)) holds.begun ∙ ap (message_effect app true course.state) e
-    ∙ ap (λ st. flushes false (applied app pairs st)) (sym holds.state)
+    ∙ ap (λ st. flushes false (flush_with_pairs app pairs st)) (sym holds.state)

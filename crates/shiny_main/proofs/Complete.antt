@@ -1,8 +1,7 @@
 -- What is taken and meets no fault is done, or memory is wanting.
-use Rattle.std.proofs.Common.{◌≡◌, ◌≢◌, ℕ, List, Option, Some, None, IfSome, Ok, sym, ◌∙◌, subst, inl, inr}
+use Rattle.std.proofs.Common.{◌≡◌, ◌≢◌, ℕ, List, Option, Some, None, IfSome, Ok, refl, sym, ◌∙◌, subst, inl, inr}
 use Rattle.std.specs.Prelude.{⊤, String}
 use Rattle.std.specs.declared.alloc.Global.{Global}
-use Rattle.rx_ports.specs.Faults.{Rose}
 use Rattle.rx_ports.specs.Files.{content_of}
 use Rattle.rx_ports.specs.declared.files.NamedFile.{NamedFile}
 use Rattle.app_tree.specs.Tree.{Shape}
@@ -17,9 +16,10 @@ use Rattle.shiny_main.specs.declared.status.Status.TheVariants as status
 use Rattle.shiny_main.specs.declared.ended.Ended.{Ended}
 use Rattle.shiny_main.specs.declared.ended.Ended.TheVariants as ended
 use Rattle.shiny_main.specs.Ends.{status_of}
-use Rattle.shiny_main.specs.Commands.{Ports, Says, count_line, Writes, ReplayedGives, RunsBuilt, CommandGives, AppGives}
+use Rattle.shiny_main.specs.Commands.{Says, count_line, Writes, ReplayedGives, RunsBuilt, CommandGives, AppGives}
+use Rattle.shiny_main.specs.Ports.{Ports}
 use Rattle.shiny_main.specs.SoFar.{HasWritten}
-use Rattle.shiny_main.specs.Top.{IsRead, ReadGives, FileGives, WordsGive, RunGives, FileFaults, InputFaults, OutputFaults, IsReplayable, IsReady, IsTaken, IsDoneOrMemory}
+use Rattle.shiny_main.specs.Top.{IsRead, ReadGives, FileGives, WordsGive, RunGives, IsReplayable, IsReady, IsTaken, IsDoneOrMemory}
 
 -- the ends that what is taken may have
 abbrev IsDoneOrFault : Ended → Type 0
@@ -81,7 +81,7 @@ file_well : (c : Command) (files : List NamedFile) (name content : List ℕ) (ap
 file_well c files name content app p ended.Done found stands ready g = tt
 file_well c files name content app p ended.WrongWords found stands ready g = read_well c files name content app p ended.WrongWords found stands ready g
 file_well c files name content app p (ended.AppRefused why) found stands ready g = read_well c files name content app p (ended.AppRefused why) found stands ready g
-file_well c files name content app p ended.FileAbsent found stands ready g = let both : Some content ≡ None = sym found ∙ g.0 in absurd cc
+file_well c files name content app p ended.FileAbsent found stands ready g = let one : Some content ≡ None = sym found ∙ g.0 in absurd cc
 file_well c files name content app p ended.FileFault found stands ready g = tt
 file_well c files name content app p (ended.BadLine k) found stands ready g = read_well c files name content app p (ended.BadLine k) found stands ready g
 file_well c files name content app p (ended.NoSession k) found stands ready g = read_well c files name content app p (ended.NoSession k) found stands ready g
@@ -89,31 +89,29 @@ file_well c files name content app p ended.ReadFault found stands ready g = tt
 file_well c files name content app p ended.WriteFault found stands ready g = tt
 file_well c files name content app p ended.Memory found stands ready g = tt
 
-no_fault : (file file' read read' write write' note note' : ℕ) (e : Ended) → IsDoneOrFault e → FileFaults file file' (status_of e) → InputFaults read read' (status_of e) → OutputFaults write write' note note' (status_of e)
-    → ¬ Rose file file' → ¬ Rose read read' → ¬ Rose write write' → ¬ Rose note note' → IsDoneOrMemory (status_of e)
-no_fault file file' read read' write write' note note' ended.Done i f r w nf nr nw nn = tt
-no_fault file file' read read' write write' note note' ended.WrongWords i f r w nf nr nw nn = i
-no_fault file file' read read' write write' note note' (ended.AppRefused why) i f r w nf nr nw nn = i
-no_fault file file' read read' write write' note note' ended.FileAbsent i f r w nf nr nw nn = i
-no_fault file file' read read' write write' note note' ended.FileFault i f r w nf nr nw nn = nf f
-no_fault file file' read read' write write' note note' (ended.BadLine k) i f r w nf nr nw nn = i
-no_fault file file' read read' write write' note note' (ended.NoSession k) i f r w nf nr nw nn = i
-no_fault file file' read read' write write' note note' ended.ReadFault i f r w nf nr nw nn = nr r
-no_fault file file' read read' write write' note note' ended.WriteFault i f r w nf nr nw nn = elim w as (λ _. IsDoneOrMemory status.WriteFault) [ inl rose ↦ nw rose | inr rose ↦ nn rose ]
-no_fault file file' read read' write write' note note' ended.Memory i f r w nf nr nw nn = tt
+-- the status of such an end, where no port failed
+no_fault : (e : Ended) → IsDoneOrFault e → status_of e ≢ status.FileFault → status_of e ≢ status.ReadFault → status_of e ≢ status.WriteFault
+    → IsDoneOrMemory (status_of e)
+no_fault ended.Done i no_file no_read no_write = tt
+no_fault ended.WrongWords i no_file no_read no_write = i
+no_fault (ended.AppRefused why) i no_file no_read no_write = i
+no_fault ended.FileAbsent i no_file no_read no_write = i
+no_fault ended.FileFault i no_file no_read no_write = no_file refl
+no_fault (ended.BadLine k) i no_file no_read no_write = i
+no_fault (ended.NoSession k) i no_file no_read no_write = i
+no_fault ended.ReadFault i no_file no_read no_write = no_read refl
+no_fault ended.WriteFault i no_file no_read no_write = no_write refl
+no_fault ended.Memory i no_file no_read no_write = tt
 
-pub completes : (words : List (String Global)) (told : Option (List NamedFile)) (p : Ports) (held_note held_note' : Option (List ℕ)) (file file' read read' write write' note note' : ℕ) (s : Status)
-    → RunGives words told p held_note held_note' s → FileFaults file file' s → InputFaults read read' s → OutputFaults write write' note note' s
-    → IsTaken words told p.left → ¬ Rose file file' → ¬ Rose read read' → ¬ Rose write write' → ¬ Rose note note' → IsDoneOrMemory s
-completes words told p held_note held_note' file file' read read' write write' note note' s g f r w taken nf nr nw nn =
-    let named = subst (λ x. WordsGive x told p g.end) taken.named g.did in
-    let tells = subst (λ t. FileGives taken.command taken.name t p g.end) taken.tells named in
-    let well = file_well taken.command taken.files taken.name taken.content taken.app p g.end taken.found taken.stands taken.ready tells in
+pub completes : (words : List (String Global)) (files : Option (List NamedFile)) (p : Ports) (note note_after : Option (List ℕ)) (s : Status)
+    → RunGives words files p note note_after s → IsTaken words files p.left → s ≢ status.FileFault → s ≢ status.ReadFault → s ≢ status.WriteFault → IsDoneOrMemory s
+completes words files p note note_after s g taken no_file no_read no_write =
+    let named = subst (λ x. WordsGive x files p g.end) taken.named g.did in
+    let known = subst (λ t. FileGives taken.command taken.name t p g.end) taken.are_known named in
+    let well = file_well taken.command taken.known taken.name taken.content taken.app p g.end taken.found taken.stands taken.ready known in
     elim (g.noted) as (λ _. IsDoneOrMemory s) [
-      | inl told ↦
-          subst IsDoneOrMemory (sym told.0)
-          (no_fault file file' read read' write write' note note' g.end well
-          (subst (λ x. FileFaults file file' x) told.0 f) (subst (λ x. InputFaults read read' x) told.0 r) (subst (λ x. OutputFaults write write' note note' x) told.0 w) nf nr nw nn)
-      | inr front ↦
-          elim (subst (λ x. OutputFaults write write' note note' x) front.0 w) as (λ _. IsDoneOrMemory s) [ inl rose ↦ absurd (nw rose) | inr rose ↦ absurd (nn rose) ]
+      | inl noted ↦
+          subst IsDoneOrMemory (sym noted.0)
+          (no_fault g.end well (λ is. no_file (noted.0 ∙ is)) (λ is. no_read (noted.0 ∙ is)) (λ is. no_write (noted.0 ∙ is)))
+      | inr front ↦ absurd (no_write front.0)
     ]

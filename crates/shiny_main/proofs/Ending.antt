@@ -1,16 +1,18 @@
 -- What the work did, by how it ended.
 use Rattle.std.proofs.Common.{◌≡◌, ℕ, zero, suc, ◌<◌, ◌≤◌, Bool, true, false, List, [], ◌∷◌, ◌++◌, length, take, Option, Some, None, IfSome, Result, Ok, Err, refl, sym, ap, ◌∙◌, subst, arith, inl, inr}
-use Rattle.std.specs.Prelude.{nat_lt}
+use Rattle.std.specs.Prelude.{◌≢◌, nat_le}
 use Rattle.std.specs.Option.{option_map}
 use Rattle.std.specs.Io.KnownBytes.{append_known}
 use Rattle.std.proofs.lemmas.Bool.Decides.{nat_tests}
 use Rattle.std.proofs.lemmas.List.{length-take, append-nil}
+use Rattle.rx_value.specs.declared.memory.Memory.{Memory}
 use Rattle.rx_ports.specs.Files.{content_of, ReadGives as PortReadGives}
 use Rattle.rx_ports.specs.declared.files.FileRead.TheVariants.{Found}
 use Rattle.rx_ports.specs.declared.files.NamedFile.{NamedFile}
 use Rattle.app_tree.specs.Tree.{Shape}
 use Rattle.app_check.specs.declared.error.LoadError.{LoadError}
 use Rattle.app_check.specs.declared.error.LoadError.TheVariants as error
+use Rattle.app_check.specs.declared.limits.TheConstants.{FILE_LIMIT}
 use Rattle.app_check.specs.Load.{loaded, within_limit, is_short}
 use Rattle.flush_cycle.specs.Built.{first_unbuilt}
 use Rattle.session_model.specs.Transcript.{ReplayEnd, done, bad_line, no_session, replayed}
@@ -22,12 +24,13 @@ use Rattle.shiny_main.specs.declared.ended.Ended.{Ended}
 use Rattle.shiny_main.specs.declared.ended.Ended.TheVariants as ended
 use Rattle.shiny_main.specs.declared.transcript.Replayed.{Replayed as ReplayAnswer}
 use Rattle.shiny_main.specs.declared.transcript.Replayed.TheVariants as answer
-use Rattle.shiny_main.specs.Ends.{ended_by, FileFaults}
+use Rattle.shiny_main.specs.Ends.{ended_by}
 use Rattle.shiny_main.specs.Notes.{IsComposed}
 use Rattle.shiny_main.specs.SoFar.{HasWritten}
-use Rattle.shiny_main.specs.Replaying.{Ends, Stops, IsOutputOfFront, Leaves, ReplayGives as LinesGive}
+use Rattle.shiny_main.specs.inner.Replaying.{Ends, Stops, IsOutputOfFront, Leaves, ReplayGives as LinesGive}
 use Rattle.app_printer.specs.Canonical.{canonical_text}
-use Rattle.shiny_main.specs.Commands.{Ports, IsUntouched, Says, count_line, Writes, WritesWhole, WritesFront, IsOutputOfRead, WritesRead, ReplayedGives, RunsBuilt, CommandGives, AppGives}
+use Rattle.shiny_main.specs.Commands.{IsPut, IsMade, Says, count_line, Writes, WritesWhole, WritesFront, IsOutputOfRead, WritesRead, ReplayedGives, RunsBuilt, CommandGives, AppGives}
+use Rattle.shiny_main.specs.Ports.{Ports, IsUntouched}
 use Rattle.shiny_main.specs.Top.{IsRead, ReadGives, FileGives, WordsGive}
 
 -- ---- a replay, from its lines
@@ -67,6 +70,28 @@ replayed_gives app p answer.ReadFault h = (writes_front app p h.0, writes_read a
 replayed_gives app p answer.WriteFault h = writes_front app p h
 replayed_gives app p answer.Memory h = writes_front app p h
 
+-- so a fault that the work ended by is one of the replay
+pub ended_by_read : (a : ReplayAnswer) → ended_by a ≡ ended.ReadFault → a ≡ answer.ReadFault
+ended_by_read answer.Done is = cc
+ended_by_read (answer.BadLine j) is = cc
+ended_by_read (answer.NoSession j) is = cc
+ended_by_read answer.ReadFault is = refl
+ended_by_read answer.WriteFault is = cc
+ended_by_read answer.Memory is = cc
+
+pub ended_by_write : (a : ReplayAnswer) → ended_by a ≡ ended.WriteFault → a ≡ answer.WriteFault
+ended_by_write answer.Done is = cc
+ended_by_write (answer.BadLine j) is = cc
+ended_by_write (answer.NoSession j) is = cc
+ended_by_write answer.ReadFault is = cc
+ended_by_write answer.WriteFault is = refl
+ended_by_write answer.Memory is = cc
+
+-- and a text that is written reads no input
+pub made_unread : (text : Result (List ℕ) Memory) (before after : Option (List ℕ)) (e : Ended) → IsMade text before after e → e ≢ ended.ReadFault
+made_unread (Ok text) before after e made is = subst (IsPut text before after) is made
+made_unread (Err m) before after e made is = let same = made.0 in cc
+
 -- ---- nothing was done for want of memory
 
 pub append_nothing : (known : Option (List ℕ)) → append_known known [] ≡ known
@@ -104,36 +129,39 @@ take_past (suc n) (x ∷ xs) h = ap (λ l. x ∷ l) (take_past n xs (omega (arit
 too_long : (bytes : List ℕ) → is_short bytes ≡ false → loaded bytes ≡ Err error.TooLong
 too_long bytes e = ap (λ b. within_limit b bytes) e
 
-is_over : (n limit : ℕ) → nat_lt n limit ≡ false → limit ≤ n
+is_over : (n limit : ℕ) → nat_le n limit ≡ false → limit < n
 is_over n limit e = grind (arith, nat_tests)
 
-is_within : (n limit : ℕ) → nat_lt n limit ≡ true → n < limit
+is_within : (n limit : ℕ) → nat_le n limit ≡ true → n ≤ limit
 is_within n limit e = grind (arith, nat_tests)
 
-not_within : (n limit : ℕ) → limit ≤ n → nat_lt n limit ≡ false
-not_within n limit le = grind (arith, nat_tests)
+not_within : (n limit : ℕ) → limit < n → nat_le n limit ≡ false
+not_within n limit lt = grind (arith, nat_tests)
 
-front_by : (content : List ℕ) (limit : ℕ) (short : Bool) → limit ≡ 262145 → nat_lt (length content) limit ≡ short → loaded content ≡ loaded (take limit content)
+front_by : (content : List ℕ) (limit : ℕ) (short : Bool) → limit ≡ FILE_LIMIT → nat_le (length content) limit ≡ short
+    → loaded content ≡ loaded (take (suc limit) content)
 front_by content limit true is e =
-    let fits = is_within (length content) limit e in
-    let within : length content ≤ limit = omega (arith, fits) in
-    ap loaded (sym (take_past limit content within))
+    let within : length content ≤ limit = is_within (length content) limit e in
+    ap loaded (sym (take_past (suc limit) content (omega (arith, within))))
 front_by content limit false is e =
-    let over = is_over (length content) limit e in
-    let cut : limit ≤ length (take limit content) = omega (arith, length-take limit content, over) in
-    let long : nat_lt (length content) 262145 ≡ false = subst (λ n. nat_lt (length content) n ≡ false) is e in
-    let still : nat_lt (length (take limit content)) 262145 ≡ false = subst (λ n. nat_lt (length (take limit content)) n ≡ false) is (not_within (length (take limit content)) limit cut) in
-    too_long content long ∙ sym (too_long (take limit content) still)
+    let front = take (suc limit) content in
+    let over : limit < length content = is_over (length content) limit e in
+    let cut : limit < length front = omega (arith, length-take (suc limit) content, over) in
+    let long : nat_le (length content) FILE_LIMIT ≡ false = subst (λ n. nat_le (length content) n ≡ false) is e in
+    let still : nat_le (length front) FILE_LIMIT ≡ false =
+    subst (λ n. nat_le (length front) n ≡ false) is (not_within (length front) limit cut) in
+    too_long content long ∙ sym (too_long front still)
 
-read_front : (found : Option (List ℕ)) (bytes : List ℕ) → option_map (λ content. take 262145 content) found ≡ Some bytes → (content : List ℕ) × (found ≡ Some content) × (loaded content ≡ loaded bytes)
+read_front : (found : Option (List ℕ)) (bytes : List ℕ) → option_map (λ content. take (suc FILE_LIMIT) content) found ≡ Some bytes
+    → (content : List ℕ) × (found ≡ Some content) × (loaded content ≡ loaded bytes)
 read_front None bytes e = cc
 read_front (Some content) bytes e =
-    let same : take 262145 content ≡ bytes = cc in
-    (content, refl, front_by content 262145 (nat_lt (length content) 262145) refl refl ∙ ap loaded same)
+    let same : take (suc FILE_LIMIT) content ≡ bytes = cc in
+    (content, refl, front_by content FILE_LIMIT (nat_le (length content) FILE_LIMIT) refl refl ∙ ap loaded same)
 
-pub is_read : (told : Option (List NamedFile)) (name bytes : List ℕ) → PortReadGives told name 262144 (Found bytes) → IsRead told name bytes
+pub is_read : (files : Option (List NamedFile)) (name bytes : List ℕ) → PortReadGives files name FILE_LIMIT (Found bytes) → IsRead files name bytes
 is_read None name bytes h = tt
-is_read (Some files) name bytes h = read_front (content_of files name) bytes h.1
+is_read (Some known) name bytes h = read_front (content_of known name) bytes h.1
 
 built_absent : (unbuilt : Option ℕ) (app : Shape) (p : Ports) → ¬ RunsBuilt unbuilt app p ended.FileAbsent
 built_absent None app p g = g
@@ -160,30 +188,21 @@ app_fault command.Print (Err r) p g = g.0
 app_fault command.Replay (Err r) p g = g.0
 
 -- the file was read, and its app was run so
-pub found_gives : (c : Command) (name bytes : List ℕ) (told : Option (List NamedFile)) (p : Ports) (e : Ended) → IsRead told name bytes → AppGives c (loaded bytes) p e → FileGives c name told p e
-found_gives c name bytes told p ended.Done r g = record { bytes = bytes; read = r; gives = g }
-found_gives c name bytes told p ended.WrongWords r g = record { bytes = bytes; read = r; gives = g }
-found_gives c name bytes told p (ended.AppRefused why) r g = record { bytes = bytes; read = r; gives = g }
-found_gives c name bytes told p ended.FileAbsent r g = absurd (app_absent c (loaded bytes) p g)
-found_gives c name bytes told p ended.FileFault r g = absurd (app_fault c (loaded bytes) p g)
-found_gives c name bytes told p (ended.BadLine k) r g = record { bytes = bytes; read = r; gives = g }
-found_gives c name bytes told p (ended.NoSession k) r g = record { bytes = bytes; read = r; gives = g }
-found_gives c name bytes told p ended.ReadFault r g = record { bytes = bytes; read = r; gives = g }
-found_gives c name bytes told p ended.WriteFault r g = record { bytes = bytes; read = r; gives = g }
-found_gives c name bytes told p ended.Memory r g = inr (record { bytes = bytes; read = r; gives = g })
+pub found_gives : (c : Command) (name bytes : List ℕ) (files : Option (List NamedFile)) (p : Ports) (e : Ended) → IsRead files name bytes → AppGives c (loaded bytes) p e → FileGives c name files p e
+found_gives c name bytes files p ended.Done r g = record { bytes = bytes; read = r; gives = g }
+found_gives c name bytes files p ended.WrongWords r g = record { bytes = bytes; read = r; gives = g }
+found_gives c name bytes files p (ended.AppRefused why) r g = record { bytes = bytes; read = r; gives = g }
+found_gives c name bytes files p ended.FileAbsent r g = absurd (app_absent c (loaded bytes) p g)
+found_gives c name bytes files p ended.FileFault r g = absurd (app_fault c (loaded bytes) p g)
+found_gives c name bytes files p (ended.BadLine k) r g = record { bytes = bytes; read = r; gives = g }
+found_gives c name bytes files p (ended.NoSession k) r g = record { bytes = bytes; read = r; gives = g }
+found_gives c name bytes files p ended.ReadFault r g = record { bytes = bytes; read = r; gives = g }
+found_gives c name bytes files p ended.WriteFault r g = record { bytes = bytes; read = r; gives = g }
+found_gives c name bytes files p ended.Memory r g = inr (record { bytes = bytes; read = r; gives = g })
 
 -- so no end of an app is a fault of the files
-pub app_files : (c : Command) (r : Result Shape LoadError) (p : Ports) (e : Ended) (before now : ℕ) → AppGives c r p e → FileFaults before now e
-app_files c r p ended.Done before now g = tt
-app_files c r p ended.WrongWords before now g = tt
-app_files c r p (ended.AppRefused why) before now g = tt
-app_files c r p ended.FileAbsent before now g = tt
-app_files c r p ended.FileFault before now g = absurd (app_fault c r p g)
-app_files c r p (ended.BadLine k) before now g = tt
-app_files c r p (ended.NoSession k) before now g = tt
-app_files c r p ended.ReadFault before now g = tt
-app_files c r p ended.WriteFault before now g = tt
-app_files c r p ended.Memory before now g = tt
+pub app_no_file_fault : (c : Command) (r : Result Shape LoadError) (p : Ports) (e : Ended) → AppGives c r p e → e ≢ ended.FileFault
+app_no_file_fault c r p e g is = app_fault c r p (subst (AppGives c r p) is g)
 
 -- ---- an end whose note finds no memory is as good as one for want of memory
 
@@ -227,27 +246,27 @@ app_memory command.Check (Err r) p e i g = (tt, g.1)
 app_memory command.Print (Err r) p e i g = (tt, g.1)
 app_memory command.Replay (Err r) p e i g = (tt, g.1)
 
-read_memory : (c : Command) (name : List ℕ) (told : Option (List NamedFile)) (p : Ports) (e : Ended) → IsComposed e → ReadGives c name told p e → FileGives c name told p ended.Memory
-read_memory c name told p e i g = inr (record { bytes = g.bytes; read = g.read; gives = app_memory c (loaded g.bytes) p e i g.gives })
+read_memory : (c : Command) (name : List ℕ) (files : Option (List NamedFile)) (p : Ports) (e : Ended) → IsComposed e → ReadGives c name files p e → FileGives c name files p ended.Memory
+read_memory c name files p e i g = inr (record { bytes = g.bytes; read = g.read; gives = app_memory c (loaded g.bytes) p e i g.gives })
 
-file_memory : (c : Command) (name : List ℕ) (told : Option (List NamedFile)) (p : Ports) (e : Ended) → IsComposed e → FileGives c name told p e → FileGives c name told p ended.Memory
-file_memory c name told p ended.Done i g = absurd i
-file_memory c name told p ended.WrongWords i g = absurd i
-file_memory c name told p (ended.AppRefused why) i g = read_memory c name told p (ended.AppRefused why) i g
-file_memory c name told p ended.FileAbsent i g = inl g.1
-file_memory c name told p ended.FileFault i g = inl g
-file_memory c name told p (ended.BadLine k) i g = read_memory c name told p (ended.BadLine k) i g
-file_memory c name told p (ended.NoSession k) i g = read_memory c name told p (ended.NoSession k) i g
-file_memory c name told p ended.ReadFault i g = absurd i
-file_memory c name told p ended.WriteFault i g = absurd i
-file_memory c name told p ended.Memory i g = absurd i
+file_memory : (c : Command) (name : List ℕ) (files : Option (List NamedFile)) (p : Ports) (e : Ended) → IsComposed e → FileGives c name files p e → FileGives c name files p ended.Memory
+file_memory c name files p ended.Done i g = absurd i
+file_memory c name files p ended.WrongWords i g = absurd i
+file_memory c name files p (ended.AppRefused why) i g = read_memory c name files p (ended.AppRefused why) i g
+file_memory c name files p ended.FileAbsent i g = inl g.1
+file_memory c name files p ended.FileFault i g = inl g
+file_memory c name files p (ended.BadLine k) i g = read_memory c name files p (ended.BadLine k) i g
+file_memory c name files p (ended.NoSession k) i g = read_memory c name files p (ended.NoSession k) i g
+file_memory c name files p ended.ReadFault i g = absurd i
+file_memory c name files p ended.WriteFault i g = absurd i
+file_memory c name files p ended.Memory i g = absurd i
 
 not_composed : (e : Ended) → e ≡ ended.WrongWords → ¬ IsComposed e
 not_composed e is i = subst IsComposed is i
 
-pub words_memory : (w : Option (Command × List ℕ)) (told : Option (List NamedFile)) (p : Ports) (e : Ended) → IsComposed e → WordsGive w told p e → WordsGive w told p ended.Memory
-words_memory None told p e i g = absurd (not_composed e g.0 i)
-words_memory (Some w) told p e i g = file_memory w.0 w.1 told p e i g
+pub words_memory : (w : Option (Command × List ℕ)) (files : Option (List NamedFile)) (p : Ports) (e : Ended) → IsComposed e → WordsGive w files p e → WordsGive w files p ended.Memory
+words_memory None files p e i g = absurd (not_composed e g.0 i)
+words_memory (Some w) files p e i g = file_memory w.0 w.1 files p e i g
 
-pub words_given : (words w : Option (Command × List ℕ)) (told : Option (List NamedFile)) (p : Ports) (e : Ended) → w ≡ words → WordsGive w told p e → WordsGive words told p e
-words_given words w told p e is g = subst (λ x. WordsGive x told p e) is g
+pub words_given : (words w : Option (Command × List ℕ)) (files : Option (List NamedFile)) (p : Ports) (e : Ended) → w ≡ words → WordsGive w files p e → WordsGive words files p e
+words_given words w files p e is g = subst (λ x. WordsGive x files p e) is g

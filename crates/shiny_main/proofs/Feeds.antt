@@ -3,7 +3,7 @@ use Rattle.std.proofs.Common.{◌≡◌, ℕ, suc, ◌+◌, ◌<◌, ◌≤◌, 
 use Rattle.std.specs.Prelude.{◌==◌, nat_lt, position}
 use Rattle.std.proofs.lemmas.Bool.Decides.{nat_tests}
 use Rattle.session_model.specs.Lines.{HasNoFeed}
-use Rattle.shiny_main.specs.Pieces.{is_feed, feed_place}
+use Rattle.shiny_main.specs.inner.Pieces.{is_feed, feed_place}
 
 -- one step of the search, by whether a feed stands first
 place_at : (x : ℕ) (xs : List ℕ) (feed : Bool) → (x == 10) ≡ feed → feed_place (x ∷ xs) ≡ cond (not feed) (suc (feed_place xs)) 0

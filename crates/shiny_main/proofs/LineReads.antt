@@ -4,19 +4,19 @@ use Rattle.std.specs.Prelude.{◌⊎◌, ◌==◌, not, min, nat_lt, if◌then�
 use Rattle.std.proofs.lemmas.Bool.Decides.{nat_tests}
 use Rattle.std.specs.Io.KnownBytes.{prepend_known, IsAtEnd}
 use Rattle.session_model.specs.Lines.{HasNoFeed, with_byte, lines_of}
-use Rattle.session_model.specs.Transcript.{transcript_limit}
 use Rattle.session_laws.proofs.TranscriptLines.{lines_of-feed, lines_of-last, lines_of-begun}
 use Rattle.shiny_main.specs.declared.lines.LineRead.{LineRead}
 use Rattle.shiny_main.specs.declared.lines.LineRead.TheVariants as read
-use Rattle.shiny_main.specs.Spoken.{spoken}
-use Rattle.shiny_main.specs.Pieces.{with_feed, IsLast, BeginsWith, BeginsLonger, Breaks}
-use Rattle.shiny_main.specs.Lines.{LinesState, coming, first_size, BeginsBad, NextGives, TellGives}
+use Rattle.shiny_main.specs.inner.Spoken.{spoken_line}
+use Rattle.shiny_main.specs.inner.Pieces.{with_feed, IsLast, BeginsWith, BeginsLonger, Breaks}
+use Rattle.shiny_main.specs.inner.Lines.{LinesState, coming, first_size, BeginsBad, NextGives, TellGives}
 use Rattle.shiny_main.proofs.SpokenLines.{spoken-over}
+use Rattle.session_model.specs.declared.limits.TheConstants.{LINE_LIMIT, TRANSCRIPT_LIMIT}
 
--- ---- bytes that are told
+-- ---- known bytes
 
--- told bytes that begin with a line, and the told ones behind it
-pub record Told (line : List ℕ) (feed : Bool) (bytes : List ℕ) (new : Option (List ℕ)) : Type 0 where
+-- known bytes that begin with a line, and those behind it
+pub record IsBegun (line : List ℕ) (feed : Bool) (bytes : List ℕ) (new : Option (List ℕ)) : Type 0 where
   pub rest : List ℕ
   pub come : new ≡ Some rest
   pub whole : bytes ≡ with_feed line feed ++ rest
@@ -29,13 +29,13 @@ begun_lines (b ∷ line) rest false h last =
     let end = (last refl).1 in
     ap (λ l. lines_of ((b ∷ line) ++ l)) end ∙ ap lines_of (append-nil (b ∷ line)) ∙ lines_of-last b line h ∙ ap (λ l. (b ∷ line) ∷ lines_of l) (sym end)
 
-pub told : (line : List ℕ) (feed : Bool) (bytes : List ℕ) (new : Option (List ℕ)) → BeginsWith line feed (Some bytes) new → Told line feed bytes new
-told line feed bytes None b = let e = b.is in absurd cc
-told line true bytes (Some rest) b =
+pub begun_by : (line : List ℕ) (feed : Bool) (bytes : List ℕ) (new : Option (List ℕ)) → BeginsWith line feed (Some bytes) new → IsBegun line feed bytes new
+begun_by line feed bytes None b = let e = b.is in absurd cc
+begun_by line true bytes (Some rest) b =
     let e = b.is in
     let whole : bytes ≡ with_feed line true ++ rest = cc in
     record { rest = rest; come = refl; whole = whole; lines = ap lines_of whole ∙ begun_lines line rest true b.no_feed (λ f. absurd cc) }
-told line false bytes (Some rest) b =
+begun_by line false bytes (Some rest) b =
     let e = b.is in
     let whole : bytes ≡ with_feed line false ++ rest = cc in
     record { rest = rest; come = refl; whole = whole; lines = ap lines_of whole ∙ begun_lines line rest false b.no_feed (λ f. b.last) }
@@ -67,43 +67,43 @@ feed_size : (line : List ℕ) (feed : Bool) (rest : List ℕ) → length (with_f
 feed_size line true rest = at_most (length (with_feed line true)) (suc (length line)) (length (with_feed line true ++ rest)) (omega (arith, length-append line (10 ∷ []))) (omega (arith, length-append (with_feed line true) rest))
 feed_size line false rest = at_most (length line) (suc (length line)) (length (line ++ rest)) (omega arith) (omega (arith, length-append line rest))
 
-pub begins_bad : (line : List ℕ) (feed : Bool) (behind : ℕ) (old new : Option (List ℕ)) → BeginsWith line feed old new → (spoken line ≡ None) ⊎ (transcript_limit < behind + length (with_feed line feed))
+pub begins_bad : (line : List ℕ) (feed : Bool) (behind : ℕ) (old new : Option (List ℕ)) → BeginsWith line feed old new → (spoken_line line ≡ None) ⊎ (TRANSCRIPT_LIMIT < behind + length (with_feed line feed))
     → IfSome old (BeginsBad behind)
-begins_bad line feed behind old new b bad = if_some (BeginsBad behind) old (λ bytes e. by bytes (told line feed bytes new (subst (λ o. BeginsWith line feed o new) e b)))
+begins_bad line feed behind old new b bad = if_some (BeginsBad behind) old (λ bytes e. by bytes (begun_by line feed bytes new (subst (λ o. BeginsWith line feed o new) e b)))
   where
-    by : (bytes : List ℕ) → Told line feed bytes new → BeginsBad behind bytes
+    by : (bytes : List ℕ) → IsBegun line feed bytes new → BeginsBad behind bytes
     by bytes t =
         let size : length (with_feed line feed) ≤ first_size line bytes = subst (λ l. length (with_feed line feed) ≤ first_size line l) (sym t.whole) (feed_size line feed t.rest) in
-        record { line = line; others = lines_of t.rest; first = t.lines; bad = elim bad as (λ _. (spoken line ≡ None) ⊎ (transcript_limit < behind + first_size line bytes)) [ inl e ↦ inl e | inr lt ↦ inr (omega (arith, size, lt)) ] }
+        record { line = line; others = lines_of t.rest; first = t.lines; bad = elim bad as (λ _. (spoken_line line ≡ None) ⊎ (TRANSCRIPT_LIMIT < behind + first_size line bytes)) [ inl e ↦ inl e | inr lt ↦ inr (omega (arith, size, lt)) ] }
 
-over_limits : (n behind : ℕ) → min 70000 (67108864 - behind) < n → (70000 < n) ⊎ (67108864 < behind + n)
-over_limits n behind lt = by (nat_lt 70000 n) refl
+over_limits : (n behind : ℕ) → min LINE_LIMIT (TRANSCRIPT_LIMIT - behind) < n → (LINE_LIMIT < n) ⊎ (TRANSCRIPT_LIMIT < behind + n)
+over_limits n behind lt = by (nat_lt LINE_LIMIT n) refl
   where
-    by : (long : Bool) → nat_lt 70000 n ≡ long → (70000 < n) ⊎ (67108864 < behind + n)
+    by : (long : Bool) → nat_lt LINE_LIMIT n ≡ long → (LINE_LIMIT < n) ⊎ (TRANSCRIPT_LIMIT < behind + n)
     by true e = inl (grind (arith, nat_tests))
     by false e =
-        let short : n ≤ 70000 = grind (arith, nat_tests) in
+        let short : n ≤ LINE_LIMIT = grind (arith, nat_tests) in
         inr (omega (arith, lt, short))
 
-longer_bad : (begun more bytes : List ℕ) (behind : ℕ) → length (begun ++ more) ≤ length bytes → min 70000 (67108864 - behind) < length begun
-    → (spoken (begun ++ more) ≡ None) ⊎ (transcript_limit < behind + first_size (begun ++ more) bytes)
+longer_bad : (begun more bytes : List ℕ) (behind : ℕ) → length (begun ++ more) ≤ length bytes → min LINE_LIMIT (TRANSCRIPT_LIMIT - behind) < length begun
+    → (spoken_line (begun ++ more) ≡ None) ⊎ (TRANSCRIPT_LIMIT < behind + first_size (begun ++ more) bytes)
 longer_bad begun more bytes behind within lt =
     let count = length-append begun more in
-    elim (over_limits (length begun) behind lt) as (λ _. (spoken (begun ++ more) ≡ None) ⊎ (transcript_limit < behind + first_size (begun ++ more) bytes)) [
+    elim (over_limits (length begun) behind lt) as (λ _. (spoken_line (begun ++ more) ≡ None) ⊎ (TRANSCRIPT_LIMIT < behind + first_size (begun ++ more) bytes)) [
       | inl long ↦ inl (spoken-over (begun ++ more) (omega (arith, count, long)))
       | inr past ↦
           let size = at_most (length begun) (suc (length (begun ++ more))) (length bytes) (omega (arith, count)) (omega (arith, count, within)) in
           inr (omega (arith, size, past))
     ]
 
-longer_told : (begun rest : List ℕ) (behind : ℕ) → HasNoFeed begun → min 70000 (67108864 - behind) < length begun → BeginsBad behind (begun ++ rest)
+longer_told : (begun rest : List ℕ) (behind : ℕ) → HasNoFeed begun → min LINE_LIMIT (TRANSCRIPT_LIMIT - behind) < length begun → BeginsBad behind (begun ++ rest)
 longer_told [] rest behind h lt = absurd (omega (arith, lt))
 longer_told (b ∷ begun) rest behind h lt =
     let begins = lines_of-begun b begun rest h in
     let few : length ((b ∷ begun) ++ begins.more) ≤ length ((b ∷ begun) ++ rest) = first_within ((b ∷ begun) ++ rest) ((b ∷ begun) ++ begins.more) begins.others begins.is in
     record { line = (b ∷ begun) ++ begins.more; others = begins.others; first = begins.is; bad = longer_bad (b ∷ begun) begins.more ((b ∷ begun) ++ rest) behind few lt }
 
-pub longer_is_bad : (behind : ℕ) (old new : Option (List ℕ)) → BeginsLonger (min 70000 (67108864 - behind)) old new → IfSome old (BeginsBad behind)
+pub longer_is_bad : (behind : ℕ) (old new : Option (List ℕ)) → BeginsLonger (min LINE_LIMIT (TRANSCRIPT_LIMIT - behind)) old new → IfSome old (BeginsBad behind)
 longer_is_bad behind old None b = subst (λ o. IfSome o (BeginsBad behind)) (sym b.is) tt
 longer_is_bad behind old (Some rest) b = subst (λ o. IfSome o (BeginsBad behind)) (sym b.is) (longer_told b.begun rest behind b.no_feed b.longer)
 
@@ -139,7 +139,7 @@ next_told old middle new line feed left left_after (read.Line k said) b number b
 next_told old middle new line feed left left_after (read.Bad k) b number behind ended g = (
   g.0 ∙ number,
   begins_bad line feed old.behind (coming old left) (coming middle left_after) b
-      (subst (λ n. (spoken line ≡ None) ⊎ (transcript_limit < old.behind + n)) (sym (with_feeds line feed)) (subst (λ n. (spoken line ≡ None) ⊎ (transcript_limit < n + (length line + feeds feed))) behind g.1)),
+      (subst (λ n. (spoken_line line ≡ None) ⊎ (TRANSCRIPT_LIMIT < old.behind + n)) (sym (with_feeds line feed)) (subst (λ n. (spoken_line line ≡ None) ⊎ (TRANSCRIPT_LIMIT < n + (length line + feeds feed))) behind g.1)),
 )
 next_told old middle new line feed left left_after read.End b number behind ended g = absurd g
 next_told old middle new line feed left left_after read.ReadFault b number behind ended g = absurd g

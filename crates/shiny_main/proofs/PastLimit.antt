@@ -2,10 +2,11 @@
 use Rattle.std.proofs.Common.{◌≡◌, ℕ, zero, suc, ◌+◌, ◌-◌, ◌<◌, ◌≤◌, Bool, true, false, cond, List, [], ◌∷◌, ◌++◌, length, take, Option, Some, None, refl, sym, ap, ◌∙◌, subst, arith, length-append}
 use Rattle.std.specs.Prelude.{◌==◌, min, nat_lt, filter, if◌then◌else◌}
 use Rattle.std.proofs.lemmas.Bool.Decides.{nat_tests}
+use Rattle.session_model.specs.declared.limits.TheConstants.{TRANSCRIPT_LIMIT}
 use Rattle.session_model.specs.Lines.{with_byte, lines_of}
 use Rattle.session_model.specs.Transcript.{is_feed}
 use Rattle.shiny_main.specs.SoFar.{on_first, whole_lines}
-use Rattle.shiny_main.specs.Lines.{PastIsHere}
+use Rattle.shiny_main.specs.inner.Lines.{PastIsHere}
 
 abbrev count : List ℕ → ℕ
 count bytes = length (filter is_feed bytes)
@@ -150,4 +151,4 @@ module _ (limit : ℕ) (front bytes line : List ℕ) (others : List (List ℕ)) 
 
 pub past_is_here : PastIsHere
 past_is_here front bytes line others within e =
-    (reaches 67108864 front bytes line others within e (nat_lt 67108864 (length (front ++ bytes))) refl, reached 67108864 front bytes line others within e)
+    (reaches TRANSCRIPT_LIMIT front bytes line others within e (nat_lt TRANSCRIPT_LIMIT (length (front ++ bytes))) refl, reached TRANSCRIPT_LIMIT front bytes line others within e)

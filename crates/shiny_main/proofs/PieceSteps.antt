@@ -10,7 +10,7 @@ use Rattle.session_laws.proofs.TranscriptLines.{HasNoFeed-append}
 use Rattle.shiny_main.specs.declared.pieces.Step.{Step}
 use Rattle.shiny_main.specs.declared.pieces.Step.TheVariants as step
 use Rattle.shiny_main.specs.declared.pieces.Cut.TheVariants as cut
-use Rattle.shiny_main.specs.Pieces.{feed_place, Moves, Grows, StepGives, CutGives, last_line, content}
+use Rattle.shiny_main.specs.inner.Pieces.{feed_place, Moves, Grows, StepGives, CutGives, last_line, content}
 use Rattle.shiny_main.proofs.Feeds.{no_feed_before, feed_at, no_feed}
 
 take_past : {A : Type 0} (n : ℕ) (xs : List A) → length xs ≤ n → take n xs ≡ xs

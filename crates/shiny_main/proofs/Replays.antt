@@ -2,20 +2,26 @@
 use Rattle.std.proofs.Common.{◌≡◌, ℕ, suc, ◌≤◌, Bool, true, false, List, [], ◌∷◌, ◌++◌, length, Option, Some, None, IfSome, refl, sym, ap, ◌∙◌, subst, arith, append_assoc, length-append}
 use Rattle.std.specs.Prelude.{not}
 use Rattle.std.specs.Io.KnownBytes.{prepend_known, append_known, IsAtEnd}
+use Rattle.rx_ports.specs.Faults.{Rose}
 use Rattle.rx_ports.proofs.Contents.{append_known-append}
 use Rattle.app_tree.specs.Tree.{Shape}
-use Rattle.session_model.specs.Lines.{lines_of, line_limit}
-use Rattle.session_model.specs.Transcript.{Open, ReplayEnd, done, bad_line, no_session, Replayed, after_output, replay_from}
+use Rattle.session_model.specs.Lines.{lines_of}
+use Rattle.session_model.specs.Transcript.{Open, ReplayEnd, done, bad_line, no_session, ReplayResult, after_output, replay_from}
 use Rattle.session_model.specs.TakenLines.{taken_by}
 use Rattle.shiny_main.specs.declared.session.OpenSession.{OpenSession}
 use Rattle.shiny_main.specs.declared.transcript.Replayed.{Replayed as ReplayAnswer}
 use Rattle.shiny_main.specs.declared.transcript.Replayed.TheVariants as answer
-use Rattle.shiny_main.specs.Pieces.{with_feed, BeginsWith}
-use Rattle.shiny_main.specs.Lines.{LinesState, at_start, coming, IsOfSource}
+use Rattle.shiny_main.specs.inner.Pieces.{with_feed, BeginsWith}
+use Rattle.shiny_main.specs.inner.Lines.{LinesState, at_start, coming, IsOfSource}
 use Rattle.shiny_main.specs.SoFar.{HasWritten, whole_lines, so_far_from}
-use Rattle.shiny_main.specs.Replaying.{HoldsSession, Ends, Stops, IsOutputOfFront, Leaves, Went, ReplayGives, NotEnded, HasFewBehind}
-use Rattle.shiny_main.proofs.LineReads.{told, if_some}
+use Rattle.shiny_main.specs.inner.Replaying.{HoldsSession, Ends, Stops, IsOutputOfFront, Leaves, TurnGoesOn, ReplayGives, NotEnded, HasFewBehind}
+use Rattle.shiny_main.proofs.LineReads.{begun_by, if_some}
 use Rattle.shiny_main.proofs.Turns.{nothing_put, whole_lines-feed}
+use Rattle.session_model.specs.declared.limits.TheConstants.{LINE_LIMIT}
+
+-- a count that rose after it had not fallen rose from the first
+pub rose_since : (first before now : ℕ) → first ≤ before → Rose before now → Rose first now
+rose_since first before now later rose = omega (arith, later, rose)
 
 -- the bytes that are gone are whole lines, and this is their output
 pub record IsWhole (app : Shape) (k : ℕ) (s : List Open) (output bytes rest : List ℕ) : Type 0 where
@@ -62,12 +68,12 @@ replaying_first app left before read wrote = record {
   write_later = omega arith;
 }
 
-after_both : (first more : List ℕ) (r : Replayed) → after_output first (after_output more r) ≡ after_output (first ++ more) r
-after_both first more r = ap (λ o. let x : Replayed = record { output = o; sessions = r.sessions; end = r.end } in x) (sym (append_assoc first more r.output))
+after_both : (first more : List ℕ) (r : ReplayResult) → after_output first (after_output more r) ≡ after_output (first ++ more) r
+after_both first more r = ap (λ o. let x : ReplayResult = record { output = o; sessions = r.sessions; end = r.end } in x) (sym (append_assoc first more r.output))
 
 -- behind what was written before
-behind : {whole rest : Replayed} → (first output : List ℕ) (end : ReplayEnd) → whole ≡ after_output first rest → HasWritten output end rest → HasWritten (first ++ output) end whole
-behind first output end e h = record { wrote = ap (λ (x : Replayed). x.output) e ∙ ap (λ l. first ++ l) h.wrote; ended = ap (λ (x : Replayed). x.end) e ∙ h.ended }
+behind : {whole rest : ReplayResult} → (first output : List ℕ) (end : ReplayEnd) → whole ≡ after_output first rest → HasWritten output end rest → HasWritten (first ++ output) end whole
+behind first output end e h = record { wrote = ap (λ (x : ReplayResult). x.output) e ∙ ap (λ l. first ++ l) h.wrote; ended = ap (λ (x : ReplayResult). x.end) e ∙ h.ended }
 
 fed : (feed : Bool) → not feed ≡ false → feed ≡ true
 fed true e = refl
@@ -77,7 +83,7 @@ unfed : (feed : Bool) → not feed ≡ true → feed ≡ false
 unfed true e = cc
 unfed false e = refl
 
-module _ (app : Shape) (s : List Open) (code : OpenSession) (lines lines' : LinesState) (left left' held after : Option (List ℕ)) (w : Went app s code lines lines' (coming lines left) (coming lines' left') held after) where
+module _ (app : Shape) (s : List Open) (code : OpenSession) (lines lines' : LinesState) (left left' held after : Option (List ℕ)) (w : TurnGoesOn app s code lines lines' (coming lines left) (coming lines' left') held after) where
   whole_more : (output bytes rest rest' : List ℕ) → IsWhole app lines.number s output bytes rest → rest ≡ with_feed w.line w.feed ++ rest' → w.feed ≡ true → IsWhole app lines'.number (w.next ∷ []) (output ++ w.output) bytes rest'
   whole_more output bytes rest rest' h parted feed =
       let fed_line : with_feed w.line w.feed ≡ w.line ++ 10 ∷ [] = ap (with_feed w.line) feed in
@@ -106,7 +112,7 @@ module _ (app : Shape) (s : List Open) (code : OpenSession) (lines lines' : Line
 
   came_more : (output bytes : List ℕ) → IsOfSource lines left → Came app lines s output bytes (coming lines left) → Came app lines' (w.next ∷ []) (output ++ w.output) bytes (coming lines' left')
   came_more output bytes of_source c =
-      let t = told w.line w.feed c.rest (coming lines' left') (subst (λ o. BeginsWith w.line w.feed o (coming lines' left')) c.come w.begins) in
+      let t = begun_by w.line w.feed c.rest (coming lines' left') (subst (λ o. BeginsWith w.line w.feed o (coming lines' left')) c.come w.begins) in
       record {
         rest = t.rest;
         come = t.come;
@@ -124,7 +130,7 @@ module _ (app : Shape) (s : List Open) (code : OpenSession) (lines lines' : Line
       by true f b = absurd cc
       by false f b = b.last.1
 
-  size_at_most : (line : List ℕ) (feed : Bool) → length line ≤ line_limit → length (with_feed line feed) ≤ 70001
+  size_at_most : (line : List ℕ) (feed : Bool) → length line ≤ LINE_LIMIT → length (with_feed line feed) ≤ suc LINE_LIMIT
   size_at_most line true few = omega (arith, few, length-append line (10 ∷ []))
   size_at_most line false few = omega (arith, few)
 
@@ -148,8 +154,8 @@ module _ (app : Shape) (s : List Open) (code : OpenSession) (lines lines' : Line
   }
 
 module _ (app : Shape) (code : Option OpenSession) (lines : LinesState) (first left before held after : Option (List ℕ)) (read_before read wrote_before wrote : ℕ) (r : Replaying app code lines first left before held read_before read wrote_before wrote) where
-  both : (output : List ℕ) → after ≡ append_known held output → after ≡ append_known before (r.output ++ output)
-  both output sank = sank ∙ ap (λ o. append_known o output) r.sank ∙ append_known-append before r.output output
+  sank_behind : (output : List ℕ) → after ≡ append_known held output → after ≡ append_known before (r.output ++ output)
+  sank_behind output sank = sank ∙ ap (λ o. append_known o output) r.sank ∙ append_known-append before r.output output
 
   -- what holds of the bytes that are to come, where the first are told
   on_rest : (P : List ℕ → Type 0) (bytes : List ℕ) → (e : first ≡ Some bytes) → IfSome (coming lines left) P → P (r.came bytes e).rest
@@ -161,7 +167,7 @@ module _ (app : Shape) (code : Option OpenSession) (lines : LinesState) (first l
       let Q : List ℕ → Type 0 = λ bs. HasWritten (r.output ++ h.output) end (replay_from app (taken_by app) 1 [] (lines_of bs)) in
       record {
         output = r.output ++ h.output;
-        sank = both h.output h.sank;
+        sank = sank_behind h.output h.sank;
         is = if_some Q first (λ bs e. behind r.output h.output end (r.came bs e).is (on_rest P bs e h.is));
       }
 
@@ -171,9 +177,9 @@ module _ (app : Shape) (code : Option OpenSession) (lines : LinesState) (first l
       let Q : List ℕ → Type 0 = λ bs. (more : List ℕ) × ((replay_from app (taken_by app) 1 [] (lines_of bs)).output ≡ (r.output ++ h.output) ++ more) in
       record {
         output = r.output ++ h.output;
-        sank = both h.output h.sank;
+        sank = sank_behind h.output h.sank;
         front = if_some Q first
-            (λ bs e. let f = on_rest P bs e h.front in (f.0, ap (λ (x : Replayed). x.output) (r.came bs e).is ∙ ap (λ o. r.output ++ o) f.1 ∙ sym (append_assoc r.output h.output f.0)));
+            (λ bs e. let f = on_rest P bs e h.front in (f.0, ap (λ (x : ReplayResult). x.output) (r.came bs e).is ∙ ap (λ o. r.output ++ o) f.1 ∙ sym (append_assoc r.output h.output f.0)));
       }
 
   read_of : (bytes : List ℕ) (left_after : Option (List ℕ)) (output rest : List ℕ) → IsWhole app lines.number r.s r.output bytes rest → IsOutputOfFront app lines.number r.s rest left_after output → IsOutputOfFront app 1 [] bytes left_after (r.output ++ output)
@@ -191,7 +197,7 @@ module _ (app : Shape) (code : Option OpenSession) (lines : LinesState) (first l
       let Q : List ℕ → Type 0 = λ bs. IsOutputOfFront app 1 [] bs left_after (r.output ++ h.output) in
       record {
         output = r.output ++ h.output;
-        sank = both h.output h.sank;
+        sank = sank_behind h.output h.sank;
         is = if_some Q first (λ bs e. read_of bs left_after h.output (r.came bs e).rest ((r.came bs e).whole open_) (on_rest P bs e h.is));
       }
 

@@ -4,15 +4,15 @@ use Rattle.std.specs.Prelude.{nat_le, nat_lt, ◌||◌, nat_eq, bytes_eq, is_som
 use Rattle.std.proofs.lemmas.Bool.{le-ltb}
 use Rattle.std.proofs.lemmas.Bool.Decides.{nat_tests, leb_tells}
 use Rattle.app_tree.specs.Tree.{Shape}
-use Rattle.shiny_json.specs.Client.{message_limit}
+use Rattle.shiny_json.specs.declared.limits.TheConstants.{MESSAGE_LIMIT}
 use Rattle.shiny_json.specs.declared.message.Pair.{Pair}
 use Rattle.session_model.specs.declared.event.Event.{Event}
 use Rattle.session_model.specs.declared.event.Event.TheVariants as event
 use Rattle.session_model.specs.declared.event.Event.TheVariants.{Text}
 use Rattle.session_model.specs.Alone.{Ending, budget_spent, ending, journal_result}
-use Rattle.session_model.specs.Transcript.{Line, recv, ends_of, Open, opened, with_event, event_output, is_over, Replayed, Rest, after_output, stepped, step_by, open_or_new, taken_by_open, goes_by, replay_line}
+use Rattle.session_model.specs.Transcript.{Line, recv, ends_of, Open, new_session, with_event, event_output, is_over, ReplayResult, Rest, after_output, replay_after_step, step_by, open_or_new, taken_by_open, replay_after_line, replay_line}
 use Rattle.session_model.specs.Journal.{text_bytes, is_full}
-use Rattle.session_model.specs.TakenLines.{line_count_limit, is_first, is_of_one, is_taken, taken_pairs, taken_line}
+use Rattle.session_model.specs.TakenLines.{is_first, is_of_one, is_taken, taken_pairs, taken_line}
 use Rattle.session_laws.proofs.TakenReplay.{taken_init, taken_update, taken_short}
 use Rattle.flush_cycle.specs.declared.stage.Stage.{Stage}
 use Rattle.flush_cycle.specs.declared.stage.Stage.TheVariants as stage
@@ -20,7 +20,8 @@ use Rattle.shiny_main.specs.declared.replay.Taken.{Taken}
 use Rattle.shiny_main.specs.declared.replay.Taken.TheVariants as code
 use Rattle.shiny_main.specs.declared.session.OpenSession.{OpenSession}
 use Rattle.shiny_main.specs.declared.session.Answered.{Answered}
-use Rattle.shiny_main.specs.Replaying.{EndsSo, HoldsOpen, IsShort, AnswersFirst, AnswersLater, Updates, TakesLine, GoesOn}
+use Rattle.shiny_main.specs.inner.Replaying.{EndsSo, HoldsOpen, IsShort, AnswersFirst, AnswersLater, Updates, TakesLine, GoesOn}
+use Rattle.session_model.specs.declared.limits.TheConstants.{TAKEN_LINE_LIMIT, EVENT_LIMIT, JOURNAL_TEXT_LIMIT}
 
 -- ---- how full a journal is
 
@@ -39,11 +40,11 @@ bytes-more (event.End ∷ journal) t = bytes-more journal t
 pub not_full : (k : ℕ) (s : Open) → IsShort k s → is_full s.journal ≡ false
 not_full k s h =
     let few = h.few in let within = h.within in let short = h.short in
-    let many : nat_le 250000 (length s.journal) ≡ false = elim (leb_tells 250000 (length s.journal)) [ inl p ↦ absurd (omega (p.1, few, within, arith)) | inr p ↦ p.0 ] in
-    let long : nat_lt 16777216 (text_bytes s.journal) ≡ false = le-ltb 16777216 (text_bytes s.journal) (omega (few, within, short, arith)) in
-    ap (λ b. b || nat_lt 16777216 (text_bytes s.journal)) many ∙ long
+    let many : nat_le EVENT_LIMIT (length s.journal) ≡ false = elim (leb_tells EVENT_LIMIT (length s.journal)) [ inl p ↦ absurd (omega (p.1, few, within, arith)) | inr p ↦ p.0 ] in
+    let long : nat_lt JOURNAL_TEXT_LIMIT (text_bytes s.journal) ≡ false = le-ltb JOURNAL_TEXT_LIMIT (text_bytes s.journal) (omega (few, within, short, arith)) in
+    ap (λ b. b || nat_lt JOURNAL_TEXT_LIMIT (text_bytes s.journal)) many ∙ long
 
-short_after : (k : ℕ) (s : Open) (text : List ℕ) → k ≤ line_count_limit → length s.journal ≤ k → text_bytes s.journal ≤ message_limit * length s.journal → length text ≤ message_limit
+short_after : (k : ℕ) (s : Open) (text : List ℕ) → k ≤ TAKEN_LINE_LIMIT → length s.journal ≤ k → text_bytes s.journal ≤ MESSAGE_LIMIT * length s.journal → length text ≤ MESSAGE_LIMIT
     → IsShort (suc k) (with_event (Text text) s)
 short_after k s text within few short h = record {
   few = let one = length-more s.journal (Text text) in omega (few, one, arith);
@@ -53,7 +54,7 @@ short_after k s text within few short h = record {
 
 -- ---- a line that is taken
 
-fits_limit : (k : ℕ) → k ≤ line_count_limit → nat_le k line_count_limit ≡ true
+fits_limit : (k : ℕ) → k ≤ TAKEN_LINE_LIMIT → nat_le k TAKEN_LINE_LIMIT ≡ true
 fits_limit k h = grind (arith, nat_tests)
 
 pub same_bytes : (xs : List ℕ) → bytes_eq xs xs ≡ true
@@ -64,18 +65,18 @@ module _ (app : Shape) (k : ℕ) (sessions : List Open) (label text : List ℕ) 
   abbrev said : Option Line
   said = taken_line app k sessions (Some (recv label text))
 
-  taken_is : (pairs : List Pair) → k ≤ line_count_limit → is_of_one label sessions ≡ true → taken_pairs app (is_first sessions) text ≡ Some pairs → is_taken app k sessions label text ≡ true
+  taken_is : (pairs : List Pair) → k ≤ TAKEN_LINE_LIMIT → is_of_one label sessions ≡ true → taken_pairs app (is_first sessions) text ≡ Some pairs → is_taken app k sessions label text ≡ true
   taken_is pairs within one taken =
       ap (λ b. b && is_of_one label sessions && is_some (taken_pairs app (is_first sessions) text)) (fits_limit k within)
       ∙ ap (λ b. b && is_some (taken_pairs app (is_first sessions) text)) one ∙ ap is_some taken
 
-  said_is : (pairs : List Pair) → k ≤ line_count_limit → is_of_one label sessions ≡ true → taken_pairs app (is_first sessions) text ≡ Some pairs → said ≡ Some (recv label text)
+  said_is : (pairs : List Pair) → k ≤ TAKEN_LINE_LIMIT → is_of_one label sessions ≡ true → taken_pairs app (is_first sessions) text ≡ Some pairs → said ≡ Some (recv label text)
   said_is pairs within one taken = ap (λ b. if b then Some (recv label text) else None) (taken_is pairs within one taken)
 
-pub first_goes : (app : Shape) (k : ℕ) (label text : List ℕ) (pairs : List Pair) (answered : Answered) → k ≤ line_count_limit → taken_pairs app true text ≡ Some pairs → AnswersFirst app label pairs answered
+pub first_goes : (app : Shape) (k : ℕ) (label text : List ℕ) (pairs : List Pair) (answered : Answered) → k ≤ TAKEN_LINE_LIMIT → taken_pairs app true text ≡ Some pairs → AnswersFirst app label pairs answered
     → GoesOn app k [] (taken_line app k [] (Some (recv label text))) answered
 first_goes app k label text pairs answered within form answers =
-    let s : Open = opened label in
+    let s : Open = new_session label in
     let answer = answers text (taken_init app text pairs form) in
     let after = with_event (Text text) s in
     record {
@@ -87,7 +88,7 @@ first_goes app k label text pairs answered within form answers =
     }
 
 -- a session of its own name is the one that is open
-module _ (app : Shape) (k : ℕ) (s : Open) (label text : List ℕ) (pairs : List Pair) (within : k ≤ line_count_limit) (same : label ≡ s.label) (form : taken_pairs app false text ≡ Some pairs) where
+module _ (app : Shape) (k : ℕ) (s : Open) (label text : List ℕ) (pairs : List Pair) (within : k ≤ TAKEN_LINE_LIMIT) (same : label ≡ s.label) (form : taken_pairs app false text ≡ Some pairs) where
   its_name : bytes_eq label s.label ≡ true
   its_name = ap (λ l. bytes_eq l s.label) same ∙ same_bytes s.label
 
@@ -95,13 +96,13 @@ module _ (app : Shape) (k : ℕ) (s : Open) (label text : List ℕ) (pairs : Lis
   its_line = said_is app k (s ∷ []) label text pairs within (ap (λ b. b && true) its_name) form
 
   -- what becomes of the line by whether the session is over
-  abbrev taken_if : Bool → Rest → Replayed
-  taken_if over next = goes_by app (s ∷ []) (taken_by_open k (Text text) (if over then None else Some s)) next
+  abbrev taken_if : Bool → Rest → ReplayResult
+  taken_if over next = replay_after_line app (s ∷ []) (taken_by_open k (Text text) (if over then None else Some s)) next
 
   its_session : (next : Rest) → replay_line app k (s ∷ []) (taken_line app k (s ∷ []) (Some (recv label text))) next ≡ taken_if (is_over app s) next
   its_session next =
       ap (λ o. replay_line app k (s ∷ []) o next) its_line
-      ∙ ap (λ b. goes_by app (s ∷ []) (taken_by_open k (Text text) (open_or_new app label (s ∷ []) (if b then Some s else None))) next) its_name
+      ∙ ap (λ b. replay_after_line app (s ∷ []) (taken_by_open k (Text text) (open_or_new app label (s ∷ []) (if b then Some s else None))) next) its_name
 
   pub later_goes : (session : OpenSession) (answered : Answered) → HoldsOpen app s session → IsShort k s → session.flusher.stage ≡ stage.Open → AnswersLater session pairs answered
       → GoesOn app k (s ∷ []) (taken_line app k (s ∷ []) (Some (recv label text))) answered
@@ -116,7 +117,7 @@ module _ (app : Shape) (k : ℕ) (s : Open) (label text : List ℕ) (pairs : Lis
         holds = answer.holds;
         short = short_after k s text within short.few short.short (taken_short app false text pairs form);
         is = λ next. its_session next ∙ ap (λ b. taken_if b next) open_
-            ∙ ap (λ b. stepped (s ∷ []) (step_by b app (Text text) s) next) (not_full k s short)
+            ∙ ap (λ b. replay_after_step (s ∷ []) (step_by b app (Text text) s) next) (not_full k s short)
             ∙ ap (λ b. after_output (event_output app (Text text) s) (next (if b then after ∷ [] else s ∷ after ∷ []))) (same_bytes s.label)
             ∙ ap (λ o. after_output o (next (after ∷ []))) (sym answer.output);
       }
@@ -131,7 +132,7 @@ over_is stage.New end e h = absurd e
 over_is stage.Open end e h = absurd (h refl)
 over_is stage.Over end e h = e
 
-pub later_takes : (app : Shape) (k : ℕ) (s : Open) (session : OpenSession) (label text : List ℕ) (pairs : List Pair) (t : Taken) → k ≤ line_count_limit → label ≡ s.label → taken_pairs app false text ≡ Some pairs
+pub later_takes : (app : Shape) (k : ℕ) (s : Open) (session : OpenSession) (label text : List ℕ) (pairs : List Pair) (t : Taken) → k ≤ TAKEN_LINE_LIMIT → label ≡ s.label → taken_pairs app false text ≡ Some pairs
     → HoldsOpen app s session → IsShort k s → Updates session pairs t → TakesLine app k (s ∷ []) (taken_line app k (s ∷ []) (Some (recv label text))) t
 later_takes app k s session label text pairs (code.Answered answered) within same form holds short u = later_goes app k s label text pairs within same form session answered holds short u.0 u.1
 later_takes app k s session label text pairs code.Bad within same form holds short u = absurd u

@@ -1,11 +1,11 @@
 -- One line of a replay, and its end, from the code's answers to the definition's replay.
 use Rattle.std.proofs.Common.{◌≡◌, ℕ, suc, ◌+◌, ◌<◌, ◌≤◌, Bool, true, false, List, [], ◌∷◌, ◌++◌, length, take, drop, Option, Some, None, IfSome, Result, Ok, Err, IfOk, refl, sym, ap, ◌∙◌, subst, arith, append_assoc, append-nil, take-append-drop, inl, inr}
-use Rattle.std.specs.Prelude.{◌||◌, ◌⊎◌, ◌==◌, is_some, codes, if◌then◌else◌}
+use Rattle.std.specs.Prelude.{◌≢◌, ◌||◌, ◌⊎◌, ◌==◌, is_some, codes, if◌then◌else◌}
 use Rattle.std.specs.Io.KnownBytes.{prepend_known, append_known, IsAtEnd}
 use Rattle.app_tree.specs.Tree.{Shape}
 use Rattle.session_model.specs.declared.event.Event.TheVariants.{End}
 use Rattle.session_model.specs.Alone.{JournalResult, ended, budget_spent, effect_from, effect_texts, result_after, ending, journal_result}
-use Rattle.session_model.specs.Transcript.{transcript_limit, Open, with_event, event_output, over_line, added_texts, is_over, step_by, ReplayEnd, done, bad_line, no_session, Replayed, Rest, stopped, closed_by, all_closed, replay_line, replay_from}
+use Rattle.session_model.specs.Transcript.{Open, with_event, event_output, over_line, added_texts, is_over, step_by, ReplayEnd, done, bad_line, no_session, ReplayResult, Rest, ended_replay, closing_step, closing_replay, replay_line, replay_from}
 use Rattle.session_model.specs.TakenLines.{taken_line, taken_by}
 use Rattle.session_model.specs.Lines.{HasNoFeed, lines_of}
 use Rattle.session_model.specs.WrittenLines.{send_lines, over_text}
@@ -22,22 +22,27 @@ use Rattle.shiny_main.specs.declared.transcript.Replayed.{Replayed as ReplayAnsw
 use Rattle.shiny_main.specs.declared.transcript.Replayed.TheVariants as answer
 use Rattle.shiny_main.specs.declared.transcript.Turn.{Turn}
 use Rattle.shiny_main.specs.declared.transcript.Turn.TheVariants as turn
-use Rattle.shiny_main.specs.Spoken.{spoken, numbered}
-use Rattle.shiny_main.specs.Pieces.{BeginsWith, Breaks}
-use Rattle.shiny_main.specs.Lines.{LinesState, coming, first_size, BeginsBad, BeginsSaying}
+use Rattle.shiny_main.specs.inner.Spoken.{spoken_line, numbered_line}
+use Rattle.shiny_main.specs.Ports.{Ports}
+use Rattle.shiny_main.specs.inner.Pieces.{BeginsWith, Breaks}
+use Rattle.shiny_main.specs.inner.Lines.{LinesState, coming, first_size, BeginsBad, BeginsSaying}
 use Rattle.shiny_main.specs.SoFar.{HasWritten, on_first, whole_lines, so_far_from}
-use Rattle.shiny_main.specs.Replaying.{EndsSo, HoldsOpen, IsShort, HoldsSession, GoesOn, TakesLine, PutsAnswer, PutsOver, ClosesAt, Closes, Ends, Stops, IsOutputOfFront, ReplayGives, NotEnded, TurnGives, HasFewBehind, AnswersTaken}
+use Rattle.shiny_main.specs.inner.Replaying.{EndsSo, HoldsOpen, IsShort, HoldsSession, GoesOn, TakesLine, PutsAnswer, PutsOver, ClosesAt, Closes, Ends, Stops, IsOutputOfFront, ReplayGives, NotEnded, TurnGives, HasFewBehind, AnswersTaken}
 use Rattle.shiny_main.proofs.SpokenLines.{spoken-over, spoken-short, line_by-spoken}
-use Rattle.shiny_main.proofs.LineReads.{told, if_some}
+use Rattle.shiny_main.proofs.LineReads.{begun_by, if_some}
 use Rattle.shiny_main.proofs.Taking.{not_full}
+use Rattle.session_model.specs.declared.limits.TheConstants.{TRANSCRIPT_LIMIT}
+
+abbrev pub ports_of : Option (List ℕ) → Option (List ℕ) → Option (List ℕ) → Option (List ℕ) → Ports
+ports_of left left_after held held_after = record { left = left; left_after = left_after; held = held; held_after = held_after }
 
 pub nothing_put : (held : Option (List ℕ)) → held ≡ append_known held []
 nothing_put None = refl
 nothing_put (Some xs) = ap Some (sym (append-nil xs))
 
 -- a replay that is this one has written so
-pub written_by : {r q : Replayed} → r ≡ q → HasWritten q.output q.end r
-written_by e = record { wrote = ap (λ (x : Replayed). x.output) e; ended = ap (λ (x : Replayed). x.end) e }
+pub written_by : {r q : ReplayResult} → r ≡ q → HasWritten q.output q.end r
+written_by e = record { wrote = ap (λ (x : ReplayResult). x.output) e; ended = ap (λ (x : ReplayResult). x.end) e }
 
 -- ---- lines that are refused
 
@@ -47,25 +52,25 @@ line_first : (app : Shape) (k : ℕ) (s : List Open) (line bytes : List ℕ) (ot
 line_first app k s line bytes others e = ap (replay_from app (taken_by app) k s) e
 
 pub line_refused : (app : Shape) (k : ℕ) (s : List Open) (line : List ℕ) (feed : Bool) (end : ReplayEnd) (bytes rest held : Option (List ℕ))
-    → BeginsWith line feed bytes rest → ((next : Rest) → replay_line app k s (taken_by app k s line) next ≡ stopped s end) → Ends app k s bytes held held end
+    → BeginsWith line feed bytes rest → ((next : Rest) → replay_line app k s (taken_by app k s line) next ≡ ended_replay s end) → Ends app k s bytes held held end
 line_refused app k s line feed end bytes rest held b h =
     let P : List ℕ → Type 0 = λ bs. HasWritten [] end (replay_from app (taken_by app) k s (lines_of bs)) in
     record {
       output = [];
       sank = nothing_put held;
       is = if_some P bytes
-          (λ bs e. let t = told line feed bs rest (subst (λ o. BeginsWith line feed o rest) e b) in written_by (line_first app k s line bs (lines_of t.rest) t.lines ∙ h (λ next. replay_from app (taken_by app) (suc k) next (lines_of t.rest))));
+          (λ bs e. let t = begun_by line feed bs rest (subst (λ o. BeginsWith line feed o rest) e b) in written_by (line_first app k s line bs (lines_of t.rest) t.lines ∙ h (λ next. replay_from app (taken_by app) (suc k) next (lines_of t.rest))));
     }
 
-unspoken : (app : Shape) (k : ℕ) (s : List Open) (line : List ℕ) → spoken line ≡ None → taken_by app k s line ≡ None
+unspoken : (app : Shape) (k : ℕ) (s : List Open) (line : List ℕ) → spoken_line line ≡ None → taken_by app k s line ≡ None
 unspoken app k s line e = ap (taken_line app k s) (line_by-spoken app.items line None e)
 
 size_within : (line bytes : List ℕ) → first_size line bytes ≤ suc (length line)
 size_within line bytes = omega arith
 
 -- so few lines stand before it that a line has no form where the transcript goes past its limit in it
-bad_unspoken : (lines : LinesState) (line bytes : List ℕ) → HasFewBehind lines → (spoken line ≡ None) ⊎ (transcript_limit < lines.behind + first_size line bytes) → spoken line ≡ None
-bad_unspoken lines line bytes short bad = elim bad as (λ _. spoken line ≡ None) [
+bad_unspoken : (lines : LinesState) (line bytes : List ℕ) → HasFewBehind lines → (spoken_line line ≡ None) ⊎ (TRANSCRIPT_LIMIT < lines.behind + first_size line bytes) → spoken_line line ≡ None
+bad_unspoken lines line bytes short bad = elim bad as (λ _. spoken_line line ≡ None) [
   | inl none ↦ none
   | inr past ↦
       let few = short.0 in let small = short.1 in let size = size_within line bytes in
@@ -82,23 +87,23 @@ bad_refused app s lines bytes held short bad =
 
 -- ---- a line that is answered
 
-front_told : (app : Shape) (k : ℕ) (s : List Open) (line bytes : List ℕ) (others : List (List ℕ)) (answered : Answered) (count : ℕ) → lines_of bytes ≡ line ∷ others → GoesOn app k s (taken_by app k s line) answered
+front_begun : (app : Shape) (k : ℕ) (s : List Open) (line bytes : List ℕ) (others : List (List ℕ)) (answered : Answered) (count : ℕ) → lines_of bytes ≡ line ∷ others → GoesOn app k s (taken_by app k s line) answered
     → (more : List ℕ) × ((replay_from app (taken_by app) k s (lines_of bytes)).output ≡ take count answered.output ++ more)
-front_told app k s line bytes others answered count e g =
+front_begun app k s line bytes others answered count e g =
     let out = answered.output in
     let later = (replay_from app (taken_by app) (suc k) (g.after ∷ []) others).output in (
       drop count out ++ later,
-      ap (λ (r : Replayed). r.output) (line_first app k s line bytes others e ∙ g.is (λ next. replay_from app (taken_by app) (suc k) next others)) ∙ ap (λ l. l ++ later) (sym (take-append-drop count out))
+      ap (λ (r : ReplayResult). r.output) (line_first app k s line bytes others e ∙ g.is (λ next. replay_from app (taken_by app) (suc k) next others)) ∙ ap (λ l. l ++ later) (sym (take-append-drop count out))
           ∙ append_assoc (take count out) (drop count out) later,
     )
 
 -- what of a line was said
-pub said_by_bytes : (app : Shape) (k : ℕ) (s : List Open) (line : List ℕ) (said : Line) → spoken line ≡ Some said → taken_by app k s line ≡ taken_line app k s (numbered app.items said)
+pub said_by_bytes : (app : Shape) (k : ℕ) (s : List Open) (line : List ℕ) (said : Line) → spoken_line line ≡ Some said → taken_by app k s line ≡ taken_line app k s (numbered_line app.items said)
 said_by_bytes app k s line said e = ap (taken_line app k s) (line_by-spoken app.items line (Some said) e)
 
 module _ (app : Shape) (s : List Open) (said : Line) (lines rest : LinesState) (left left_after : Option (List ℕ)) (b : BeginsSaying said lines rest left left_after) where
   pub answer_put : (answered : Answered) (before after : Option (List ℕ)) (t : Turn) → GoesOn app lines.number s (taken_by app lines.number s b.line) answered → PutsAnswer answered before after t
-      → TurnGives app s lines rest left left_after before after t
+      → TurnGives app s lines rest (ports_of left left_after before after) t
   answer_put answered before after (turn.Goes code) g p = record {
     within = g.within;
     next = g.after;
@@ -122,7 +127,7 @@ module _ (app : Shape) (s : List Open) (said : Line) (lines rest : LinesState) (
           output = take p.count answered.output;
           sank = p.front;
           front = if_some P (coming lines left)
-              (λ bs e. let t = told b.line b.feed bs (coming rest left_after) (subst (λ o. BeginsWith b.line b.feed o (coming rest left_after)) e b.begins) in front_told app k s b.line bs (lines_of t.rest) answered p.count t.lines g);
+              (λ bs e. let t = begun_by b.line b.feed bs (coming rest left_after) (subst (λ o. BeginsWith b.line b.feed o (coming rest left_after)) e b.begins) in front_begun app k s b.line bs (lines_of t.rest) answered p.count t.lines g);
         },
         tt,
       )
@@ -175,37 +180,37 @@ ended_output app s none =
     let over : ending app (with_event End s).journal ≡ Some ended = ap (λ (c : JournalResult). c.ending) (journal_result-more app s.journal End ∙ ap (λ o. result_after course course.items (effect_from app course o End)) none) in
     ap (λ l. send_lines s.label l ++ over_line s.label (ending app (with_event End s).journal)) quiet ∙ ap (over_line s.label) over
 
-closed_is : (app : Shape) (k : ℕ) (s : List Open) (bytes : Option (List ℕ)) (output : List ℕ) → IsAtEnd bytes → HasWritten output done (all_closed app s)
+closed_is : (app : Shape) (k : ℕ) (s : List Open) (bytes : Option (List ℕ)) (output : List ℕ) → IsAtEnd bytes → HasWritten output done (closing_replay app s)
     → IfSome bytes (λ bs. HasWritten output done (replay_from app (taken_by app) k s (lines_of bs)))
 closed_is app k s None output none e = tt
 closed_is app k s (Some bs) output none e = subst (λ l. HasWritten output done (replay_from app (taken_by app) k s (lines_of l))) (sym none) e
 
-closed_front : (app : Shape) (k : ℕ) (s : List Open) (bytes : Option (List ℕ)) (output : List ℕ) (count : ℕ) → IsAtEnd bytes → HasWritten output done (all_closed app s)
+closed_front : (app : Shape) (k : ℕ) (s : List Open) (bytes : Option (List ℕ)) (output : List ℕ) (count : ℕ) → IsAtEnd bytes → HasWritten output done (closing_replay app s)
     → IfSome bytes (λ bs. (more : List ℕ) × ((replay_from app (taken_by app) k s (lines_of bs)).output ≡ take count output ++ more))
 closed_front app k s None output count none e = tt
-closed_front app k s (Some bs) output count none e = (drop count output, ap (λ (r : Replayed). r.output) (ap (λ l. replay_from app (taken_by app) k s (lines_of l)) none) ∙ e.wrote ∙ sym (take-append-drop count output))
+closed_front app k s (Some bs) output count none e = (drop count output, ap (λ (r : ReplayResult). r.output) (ap (λ l. replay_from app (taken_by app) k s (lines_of l)) none) ∙ e.wrote ∙ sym (take-append-drop count output))
 
-closed_open : (app : Shape) (k : ℕ) (s : Open) → IsShort k s → s.full ≡ false → ending app s.journal ≡ None → HasWritten (over_text s.label (codes "ended")) done (all_closed app (s ∷ []))
+closed_open : (app : Shape) (k : ℕ) (s : Open) → IsShort k s → s.full ≡ false → ending app s.journal ≡ None → HasWritten (over_text s.label (codes "ended")) done (closing_replay app (s ∷ []))
 closed_open app k s short full none =
     let open_ : is_over app s ≡ false = ap (λ b. b || is_some (ending app s.journal)) full ∙ ap is_some none in
     record {
-      wrote = append-nil (closed_by (is_over app s) app s).output ∙ ap (λ b. (closed_by b app s).output) open_ ∙ ap (λ b. (step_by b app End s).output) (not_full k s short) ∙ ended_output app s none;
+      wrote = append-nil (closing_step (is_over app s) app s).output ∙ ap (λ b. (closing_step b app s).output) open_ ∙ ap (λ b. (step_by b app End s).output) (not_full k s short) ∙ ended_output app s none;
       ended = refl;
     }
 
-closed_over : (app : Shape) (s : Open) → s.full ≡ false → ending app s.journal ≡ Some budget_spent → HasWritten [] done (all_closed app (s ∷ []))
+closed_over : (app : Shape) (s : Open) → s.full ≡ false → ending app s.journal ≡ Some budget_spent → HasWritten [] done (closing_replay app (s ∷ []))
 closed_over app s full e =
     let over : is_over app s ≡ true = ap (λ b. b || is_some (ending app s.journal)) full ∙ ap is_some e in
-    record { wrote = append-nil (closed_by (is_over app s) app s).output ∙ ap (λ b. (closed_by b app s).output) over; ended = refl }
+    record { wrote = append-nil (closing_step (is_over app s) app s).output ∙ ap (λ b. (closing_step b app s).output) over; ended = refl }
 
 -- nothing is put at the end
 quiet_end : (app : Shape) (k : ℕ) (s : List Open) (bytes left before after : Option (List ℕ)) (a : ReplayAnswer) → IsAtEnd bytes → IsAtEnd left
-    → HasWritten [] done (all_closed app s) → (after ≡ before) × (a ≡ answer.Done) → ReplayGives app k s bytes left before after a
+    → HasWritten [] done (closing_replay app s) → (after ≡ before) × (a ≡ answer.Done) → ReplayGives app k s bytes left before after a
 quiet_end app k s bytes left before after a none end e c =
     subst (ReplayGives app k s bytes left before after) (sym c.1) (record { output = []; sank = c.0 ∙ nothing_put before; is = closed_is app k s bytes [] none e }, end)
 
 over_end : (app : Shape) (k : ℕ) (s : Open) (bytes left before after : Option (List ℕ)) (a : ReplayAnswer) → IsAtEnd bytes → IsAtEnd left
-    → HasWritten (over_text s.label (codes "ended")) done (all_closed app (s ∷ [])) → PutsOver s.label before after a → ReplayGives app k (s ∷ []) bytes left before after a
+    → HasWritten (over_text s.label (codes "ended")) done (closing_replay app (s ∷ [])) → PutsOver s.label before after a → ReplayGives app k (s ∷ []) bytes left before after a
 over_end app k s bytes left before after answer.Done none end e p =
     (record { output = over_text s.label (codes "ended"); sank = p; is = closed_is app k (s ∷ []) bytes (over_text s.label (codes "ended")) none e }, end)
 over_end app k s bytes left before after answer.WriteFault none end e p = record {
@@ -239,11 +244,11 @@ ends_with : (app : Shape) (k : ℕ) (s : List Open) (bytes before after : Option
 ends_with app k s bytes before after end e h = record { output = h.output; sank = e ∙ h.sank; is = h.is }
 
 turn_at : (app : Shape) (s : List Open) (lines rest : LinesState) (left left_after before after : Option (List ℕ)) (t : Turn) (a : ReplayAnswer) → t ≡ turn.Ends a → ReplayGives app lines.number s (coming lines left) left_after before after a
-    → NotEnded lines.ended a → TurnGives app s lines rest left left_after before after t
-turn_at app s lines rest left left_after before after t a e h n = subst (TurnGives app s lines rest left left_after before after) (sym e) (h, n)
+    → NotEnded lines.ended a → TurnGives app s lines rest (ports_of left left_after before after) t
+turn_at app s lines rest left left_after before after t a e h n = subst (TurnGives app s lines rest (ports_of left left_after before after)) (sym e) (h, n)
 
 pub taken_turn : (app : Shape) (s : List Open) (said : Line) (lines rest : LinesState) (left left_after before after : Option (List ℕ)) (t : Result Taken Memory) (answered : Turn) → (b : BeginsSaying said lines rest left left_after)
-    → IfOk t (TakesLine app lines.number s (taken_by app lines.number s b.line)) → AnswersTaken t lines.number before after answered → TurnGives app s lines rest left left_after before after answered
+    → IfOk t (TakesLine app lines.number s (taken_by app lines.number s b.line)) → AnswersTaken t lines.number before after answered → TurnGives app s lines rest (ports_of left left_after before after) answered
 taken_turn app s said lines rest left left_after before after (Ok (taken.Answered a)) answered b takes gives = answer_put app s said lines rest left left_after b a before after answered takes gives
 taken_turn app s said lines rest left left_after before after (Ok taken.Bad) answered b takes gives =
     let k = lines.number in
@@ -255,11 +260,6 @@ taken_turn app s said lines rest left left_after before after (Ok taken.NoSessio
     (ends_with app k s (coming lines left) before after (no_session k) gives.0 (line_refused app k s b.line b.feed (no_session k) (coming lines left) (coming rest left_after) before b.begins takes)) tt
 taken_turn app s said lines rest left left_after before after (Err x) answered b takes gives =
     turn_at app s lines rest left left_after before after answered answer.Memory gives.1 (stops_here app lines.number s (coming lines left) before after gives.0) tt
-
--- the replay ends with this line
-pub turn_ends : (app : Shape) (s : List Open) (lines rest : LinesState) (left left_after before after : Option (List ℕ)) (a : ReplayAnswer) → ReplayGives app lines.number s (coming lines left) left_after before after a → NotEnded lines.ended a
-    → TurnGives app s lines rest left left_after before after (turn.Ends a)
-turn_ends app s lines rest left left_after before after a h n = (h, n)
 
 -- what closes the sessions is no fault of the source
 pub closes_open : (code : Option OpenSession) (ended_ : Bool) (before after : Option (List ℕ)) (a : ReplayAnswer) → Closes code before after a → NotEnded ended_ a
@@ -275,3 +275,11 @@ closes_open (Some code) ended_ before after answer.ReadFault c = absurd (no_faul
     no_fault stage.Over label c = let e = c.1 in absurd cc
 closes_open code ended_ before after answer.WriteFault c = tt
 closes_open code ended_ before after answer.Memory c = tt
+
+pub closed_unread : (code : Option OpenSession) (before after : Option (List ℕ)) (a : ReplayAnswer) → Closes code before after a → a ≢ answer.ReadFault
+closed_unread code before after a c is =
+    let open_ : true ≡ false = subst (NotEnded true) is (closes_open code true before after a c) in
+    cc
+
+pub ends_as : (a b : ReplayAnswer) → turn.Ends a ≡ turn.Ends b → a ≡ b
+ends_as a b e = cc

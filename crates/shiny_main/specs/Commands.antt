@@ -13,23 +13,12 @@ use Rattle.app_printer.specs.Laws.{ReadsBack}
 use Rattle.session_model.specs.Transcript.{ReplayEnd, done, bad_line, no_session, replayed}
 use Rattle.session_model.specs.TakenLines.{replayed_today}
 use Rattle.flush_cycle.specs.Built.{first_unbuilt}
+use Rattle.shiny_main.specs.Ports.{Ports, IsUntouched}
 use Rattle.shiny_main.specs.SoFar.{HasWritten, replayed_so_far}
 use Rattle.shiny_main.specs.declared.words.Command.{Command}
 use Rattle.shiny_main.specs.declared.words.Command.TheVariants as command
 use Rattle.shiny_main.specs.declared.ended.Ended.{Ended}
 use Rattle.shiny_main.specs.declared.ended.Ended.TheVariants as ended
-
--- what the input has left and what the output holds, before the work and after it, where they tell it
-pub record Ports : Type 0 where
-  pub left : Option (List ℕ)
-  pub left_after : Option (List ℕ)
-  pub held : Option (List ℕ)
-  pub held_after : Option (List ℕ)
-
--- nothing was read and nothing was written
-pub record IsUntouched (p : Ports) : Type 0 where
-  pub read : p.left_after ≡ p.left
-  pub written : p.held_after ≡ p.held
 
 -- ---- a command that writes a text and reads no input
 

@@ -1,6 +1,4 @@
 -- How the program's work may end.
-use Rattle.std.specs.Prelude.{ℕ, ⊤}
-use Rattle.rx_ports.specs.Faults.{Rose}
 use Rattle.shiny_main.specs.declared.status.Status.{Status}
 use Rattle.shiny_main.specs.declared.status.Status.TheVariants as status
 use Rattle.shiny_main.specs.declared.ended.Ended.{Ended}
@@ -27,17 +25,3 @@ ended_by (answer.NoSession k) = ended.NoSession k
 ended_by answer.ReadFault = ended.ReadFault
 ended_by answer.WriteFault = ended.WriteFault
 ended_by answer.Memory = ended.Memory
-
--- ---- a fault ends the work only where its count rose
-
-abbrev pub FileFaults : ℕ → ℕ → Ended → Type 0
-FileFaults before now ended.FileFault = Rose before now
-FileFaults before now _ = ⊤
-
-abbrev pub InputFaults : ℕ → ℕ → Ended → Type 0
-InputFaults before now ended.ReadFault = Rose before now
-InputFaults before now _ = ⊤
-
-abbrev pub OutputFaults : ℕ → ℕ → Ended → Type 0
-OutputFaults before now ended.WriteFault = Rose before now
-OutputFaults before now _ = ⊤

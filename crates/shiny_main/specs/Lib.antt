@@ -1,12 +1,9 @@
-pub mod Pieces
-pub mod Spoken
-pub mod Lines
+pub mod Ports
 pub mod SoFar
-pub mod Replaying
 pub mod Statuses
 pub mod Words
 pub mod Ends
 pub mod Notes
 pub mod Commands
 pub mod Top
-pub mod Fronts
+pub mod inner

@@ -9,7 +9,6 @@ use Rattle.shiny_main.specs.declared.status.Status.{Status}
 use Rattle.shiny_main.specs.declared.status.Status.TheVariants as status
 use Rattle.shiny_main.specs.declared.ended.Ended.{Ended}
 use Rattle.shiny_main.specs.declared.ended.Ended.TheVariants as ended
-use Rattle.rx_ports.specs.Faults.{Rose}
 use Rattle.rx_value.specs.declared.memory.Memory.{Memory}
 use Rattle.shiny_main.specs.Words.{words_of}
 use Rattle.shiny_main.specs.Ends.{status_of}
@@ -47,7 +46,8 @@ note_text words e = note_on (file_of (words_of words)) e
 
 -- the note was written whole, and the status is that of the end; or a front of it was, and the status says that
 abbrev pub IsNoted : List ℕ → Status → Option (List ℕ) → Option (List ℕ) → Status → Type 0
-IsNoted text told before after s = ((s ≡ told) × (after ≡ append_known before text)) ⊎ ((s ≡ status.WriteFault) × PutsFront before after text)
+IsNoted text end before after s =
+    ((s ≡ end) × (after ≡ append_known before text)) ⊎ ((s ≡ status.WriteFault) × PutsFront before after text)
 
 -- ends whose note takes memory; where there is none, that is what the note tells
 abbrev pub IsComposed : Ended → Type 0
@@ -59,20 +59,11 @@ IsComposed (ended.NoSession k) = ⊤
 IsComposed _ = ⊥
 
 abbrev pub Tells : List ℕ → Ended → Option (List ℕ) → Option (List ℕ) → Status → Type 0
-Tells file e before after s = IsNoted (note_on file e) (status_of e) before after s ⊎ (IsComposed e × IsNoted memory_text status.Memory before after s)
+Tells file e before after s =
+    IsNoted (note_on file e) (status_of e) before after s
+    ⊎ (IsComposed e × IsNoted memory_text status.Memory before after s)
 
--- a text that was made is told as this status, and want of memory as its own
+-- a text that was made is written with this status, and want of memory has its own note and status
 abbrev pub TellsMade : Result (List ℕ) Memory → Status → Option (List ℕ) → Option (List ℕ) → Status → Type 0
-TellsMade (Ok text) told before after s = IsNoted text told before after s
-TellsMade (Err e) told before after s = IsNoted memory_text status.Memory before after s
-
--- the status is the one to be told, or the count of the note's faults rose
-abbrev pub NoteFaults : Status → ℕ → ℕ → Status → Type 0
-NoteFaults told before now s = (s ≡ told) ⊎ Rose before now
-
-abbrev pub MadeFaults : Result (List ℕ) Memory → Status → ℕ → ℕ → Status → Type 0
-MadeFaults (Ok text) told before now s = NoteFaults told before now s
-MadeFaults (Err e) told before now s = NoteFaults status.Memory before now s
-
-abbrev pub TellFaults : Ended → ℕ → ℕ → Status → Type 0
-TellFaults e before now s = NoteFaults (status_of e) before now s ⊎ (IsComposed e × NoteFaults status.Memory before now s)
+TellsMade (Ok text) end before after s = IsNoted text end before after s
+TellsMade (Err e) end before after s = IsNoted memory_text status.Memory before after s

@@ -3,13 +3,13 @@ use Rattle.std.specs.Prelude.{ℕ}
 use Rattle.shiny_main.specs.declared.status.Status.{Status}
 use Rattle.shiny_main.specs.declared.status.Status.TheVariants as status
 
-abbrev pub number_of : Status → ℕ
-number_of status.Done = 0
-number_of status.WrongWords = 2
-number_of status.AppRefused = 3
-number_of status.FileAbsent = 4
-number_of status.FileFault = 5
-number_of status.LineRefused = 6
-number_of status.ReadFault = 7
-number_of status.WriteFault = 8
-number_of status.Memory = 9
+abbrev pub status_number : Status → ℕ
+status_number status.Done = 0
+status_number status.WrongWords = 2
+status_number status.AppRefused = 3
+status_number status.FileAbsent = 4
+status_number status.FileFault = 5
+status_number status.LineRefused = 6
+status_number status.ReadFault = 7
+status_number status.WriteFault = 8
+status_number status.Memory = 9

@@ -1,7 +1,6 @@
 -- What the top call promises.
 use Rattle.std.specs.Prelude.{◌≡◌, ℕ, List, String, Option, Some, None, IfSome, Ok, ⊤, ◌⊎◌}
 use Rattle.std.specs.declared.alloc.Global.{Global}
-use Rattle.rx_ports.specs.Faults.{Rose}
 use Rattle.rx_ports.specs.Files.{content_of}
 use Rattle.rx_ports.specs.declared.files.NamedFile.{NamedFile}
 use Rattle.app_tree.specs.Tree.{Shape}
@@ -18,53 +17,41 @@ use Rattle.shiny_main.specs.declared.ended.Ended.TheVariants as ended
 use Rattle.shiny_main.specs.Words.{words_of}
 use Rattle.shiny_main.specs.Ends.{status_of}
 use Rattle.shiny_main.specs.Notes.{note_text, IsNoted}
-use Rattle.shiny_main.specs.Commands.{Ports, IsUntouched, AppGives}
+use Rattle.shiny_main.specs.Ports.{Ports, IsUntouched}
+use Rattle.shiny_main.specs.Commands.{AppGives}
 
 -- ---- the file
 
--- the bytes that were read stand for what the file of this name does, where the files are told
+-- the bytes that were read stand for what the file of this name does, where the files are known
 abbrev pub IsRead : Option (List NamedFile) → List ℕ → List ℕ → Type 0
-IsRead told name bytes = IfSome told (λ files. (content : List ℕ) × (content_of files name ≡ Some content) × (loaded content ≡ loaded bytes))
+IsRead files name bytes =
+    IfSome files (λ known. (content : List ℕ) × (content_of known name ≡ Some content) × (loaded content ≡ loaded bytes))
 
 -- the file of this name was read, and the command did with its bytes what it does
-pub record ReadGives (c : Command) (name : List ℕ) (told : Option (List NamedFile)) (p : Ports) (e : Ended) : Type 0 where
+pub record ReadGives (c : Command) (name : List ℕ) (files : Option (List NamedFile)) (p : Ports) (e : Ended) : Type 0 where
   pub bytes : List ℕ
-  pub read : IsRead told name bytes
+  pub read : IsRead files name bytes
   pub gives : AppGives c (loaded bytes) p e
 
 abbrev pub FileGives : Command → List ℕ → Option (List NamedFile) → Ports → Ended → Type 0
-FileGives c name told p ended.FileAbsent = IfSome told (λ files. content_of files name ≡ None) × IsUntouched p
-FileGives c name told p ended.FileFault = IsUntouched p
-FileGives c name told p ended.Memory = IsUntouched p ⊎ ReadGives c name told p ended.Memory
-FileGives c name told p e = ReadGives c name told p e
+FileGives c name files p ended.FileAbsent = IfSome files (λ known. content_of known name ≡ None) × IsUntouched p
+FileGives c name files p ended.FileFault = IsUntouched p
+FileGives c name files p ended.Memory = IsUntouched p ⊎ ReadGives c name files p ended.Memory
+FileGives c name files p e = ReadGives c name files p e
 
 -- the words decide first: they name a command and a file, or the work ends at once
 abbrev pub WordsGive : Option (Command × List ℕ) → Option (List NamedFile) → Ports → Ended → Type 0
-WordsGive None told p e = (e ≡ ended.WrongWords) × IsUntouched p
-WordsGive (Some w) told p e = FileGives w.0 w.1 told p e
+WordsGive None files p e = (e ≡ ended.WrongWords) × IsUntouched p
+WordsGive (Some w) files p e = FileGives w.0 w.1 files p e
 
 -- ---- the whole
 
 -- how the work ended, what was done until then, and the note and the status that tell it
-pub record RunGives (words : List (String Global)) (told : Option (List NamedFile)) (p : Ports) (note note_after : Option (List ℕ)) (s : Status) : Type 0 where
+pub record RunGives (words : List (String Global)) (files : Option (List NamedFile)) (p : Ports)
+    (note note_after : Option (List ℕ)) (s : Status) : Type 0 where
   pub end : Ended
-  pub did : WordsGive (words_of words) told p end
+  pub did : WordsGive (words_of words) files p end
   pub noted : IsNoted (note_text words end) (status_of end) note note_after s
-
--- ---- a fault ends the run only where its count rose
-
-abbrev pub FileFaults : ℕ → ℕ → Status → Type 0
-FileFaults before now status.FileFault = Rose before now
-FileFaults before now _ = ⊤
-
-abbrev pub InputFaults : ℕ → ℕ → Status → Type 0
-InputFaults before now status.ReadFault = Rose before now
-InputFaults before now _ = ⊤
-
--- the count of the output or that of the note
-abbrev pub OutputFaults : ℕ → ℕ → ℕ → ℕ → Status → Type 0
-OutputFaults before now note note_now status.WriteFault = Rose before now ⊎ Rose note note_now
-OutputFaults before now note note_now _ = ⊤
 
 -- ---- what is taken is done
 
@@ -81,15 +68,15 @@ IsReady command.Print app left = ⊤
 IsReady command.Replay app left = IsReplayable app left
 
 -- the words name a command and a file, the file stands for an app, and the command can be done with it
-pub record IsTaken (words : List (String Global)) (told : Option (List NamedFile)) (left : Option (List ℕ)) : Type 0 where
+pub record IsTaken (words : List (String Global)) (files : Option (List NamedFile)) (left : Option (List ℕ)) : Type 0 where
   pub command : Command
   pub name : List ℕ
-  pub files : List NamedFile
+  pub known : List NamedFile
   pub content : List ℕ
   pub app : Shape
   pub named : words_of words ≡ Some (command, name)
-  pub tells : told ≡ Some files
-  pub found : content_of files name ≡ Some content
+  pub are_known : files ≡ Some known
+  pub found : content_of known name ≡ Some content
   pub stands : loaded content ≡ Ok app
   pub ready : IsReady command app left
 

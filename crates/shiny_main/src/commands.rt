@@ -1,14 +1,13 @@
 //! What each command does with the app of its file.
 
-ghost use Rattle.std.specs.Prelude.{◌≡◌, ◌≤◌, true, IfOk, codes, ◌++◌};
-ghost use Rattle.rx_ports.specs.Faults.{Rose};
+ghost use Rattle.std.specs.Prelude.{◌≡◌, true, IfOk, codes, ◌++◌};
 ghost use Rattle.app_tree.specs.Named.{named};
 ghost use Rattle.app_tree.specs.View.{shape_of};
 ghost use Rattle.app_check.specs.Load.{loaded};
 ghost use Rattle.app_check.specs.Text.{refusal_text};
 ghost use Rattle.app_check.specs.Words.{has_words};
 ghost use Rattle.flush_cycle.specs.Built.{IsBuilt};
-ghost use Rattle.shiny_main.specs.Ends.{InputFaults, OutputFaults};
+ghost use Rattle.shiny_main.specs.Ports.{ports, CountsFaults};
 ghost use Rattle.shiny_main.specs.Commands.{IsMade, IsRefused, count_line, name_at, not_yet_text, ReplayedGives, RunsBuilt, CommandGives, AppGives};
 
 use crate::ended::{Ended, ended_by};
@@ -25,8 +24,7 @@ use std::sync::Arc;
 
 fn put_text<K: Sink>(text: Result<RxText, Memory>, out: &mut K) -> Ended
     ensures gives { IsMade text (K.held out.old) (K.held out.new) result }
-    ensures later { K.faults out.old ≤ K.faults out.new }
-    ensures failed { OutputFaults (K.faults out.old) (K.faults out.new) result }
+    ensures faults { CountsFaults K.faults out.old out.new (result ≡ Ended.WriteFault) }
 {
     match text {
         Ok(text) => match out.put(text.as_str().as_bytes()) {
@@ -77,11 +75,10 @@ fn not_yet(alloc: Global, app: &App, place: usize) -> Ended
 
 fn replay_built<S: Source, K: Sink>(alloc: Global, app: App, input: &mut S, out: &mut K) -> Ended
     requires { IsBuilt (shape_of app) }
-    ensures gives { ReplayedGives (shape_of app) (record { left = S.left input.old; left_after = S.left input.new; held = K.held out.old; held_after = K.held out.new }) result }
-    ensures read_later { S.faults input.old ≤ S.faults input.new }
-    ensures write_later { K.faults out.old ≤ K.faults out.new }
-    ensures read { InputFaults (S.faults input.old) (S.faults input.new) result }
-    ensures write { OutputFaults (K.faults out.old) (K.faults out.new) result }
+    ensures gives { ReplayedGives (shape_of app) (ports S.left K.held input.old input.new out.old out.new)
+        result }
+    ensures read { CountsFaults S.faults input.old input.new (result ≡ Ended.ReadFault) }
+    ensures write { CountsFaults K.faults out.old out.new (result ≡ Ended.WriteFault) }
 {
     match Arc::new(alloc, app) {
         Ok(app) => ended_by(replay(alloc, &app, input, out)),
@@ -92,11 +89,10 @@ fn replay_built<S: Source, K: Sink>(alloc: Global, app: App, input: &mut S, out:
 /// Replays the input with an app whose every item has a form that is run today; another app is
 /// refused.
 fn run_replay<S: Source, K: Sink>(alloc: Global, app: App, input: &mut S, out: &mut K) -> Ended
-    ensures gives { CommandGives Command.Replay (shape_of app) (record { left = S.left input.old; left_after = S.left input.new; held = K.held out.old; held_after = K.held out.new }) result }
-    ensures read_later { S.faults input.old ≤ S.faults input.new }
-    ensures write_later { K.faults out.old ≤ K.faults out.new }
-    ensures read { InputFaults (S.faults input.old) (S.faults input.new) result }
-    ensures write { OutputFaults (K.faults out.old) (K.faults out.new) result }
+    ensures gives { CommandGives Command.Replay (shape_of app)
+        (ports S.left K.held input.old input.new out.old out.new) result }
+    ensures read { CountsFaults S.faults input.old input.new (result ≡ Ended.ReadFault) }
+    ensures write { CountsFaults K.faults out.old out.new (result ≡ Ended.WriteFault) }
 {
     match built(&app) {
         None => replay_built(alloc, app, input, out),
@@ -112,11 +108,10 @@ fn run_command<S: Source, K: Sink>(
     out: &mut K,
 ) -> Ended
     requires { has_words (named (shape_of app)) ≡ true }
-    ensures gives { CommandGives command (shape_of app) (record { left = S.left input.old; left_after = S.left input.new; held = K.held out.old; held_after = K.held out.new }) result }
-    ensures read_later { S.faults input.old ≤ S.faults input.new }
-    ensures write_later { K.faults out.old ≤ K.faults out.new }
-    ensures read { InputFaults (S.faults input.old) (S.faults input.new) result }
-    ensures write { OutputFaults (K.faults out.old) (K.faults out.new) result }
+    ensures gives { CommandGives command (shape_of app)
+        (ports S.left K.held input.old input.new out.old out.new) result }
+    ensures read { CountsFaults S.faults input.old input.new (result ≡ Ended.ReadFault) }
+    ensures write { CountsFaults K.faults out.old out.new (result ≡ Ended.WriteFault) }
 {
     match command {
         Command::Check => put_text(count_line(alloc, &app), out),
@@ -125,7 +120,7 @@ fn run_command<S: Source, K: Sink>(
     }
 }
 
-fn refused(alloc: Global, refusal: &LoadError) -> Ended
+fn refusal_end(alloc: Global, refusal: &LoadError) -> Ended
     ensures { IsRefused (refusal_text refusal.now) result }
 {
     match refusal.note(alloc) {
@@ -142,15 +137,14 @@ pub fn run_app<S: Source, K: Sink>(
     input: &mut S,
     out: &mut K,
 ) -> Ended
-    ensures gives { AppGives command (loaded bytes.now) (record { left = S.left input.old; left_after = S.left input.new; held = K.held out.old; held_after = K.held out.new }) result }
-    ensures read_later { S.faults input.old ≤ S.faults input.new }
-    ensures write_later { K.faults out.old ≤ K.faults out.new }
-    ensures read { InputFaults (S.faults input.old) (S.faults input.new) result }
-    ensures write { OutputFaults (K.faults out.old) (K.faults out.new) result }
+    ensures gives { AppGives command (loaded bytes.now)
+        (ports S.left K.held input.old input.new out.old out.new) result }
+    ensures read { CountsFaults S.faults input.old input.new (result ≡ Ended.ReadFault) }
+    ensures write { CountsFaults K.faults out.old out.new (result ≡ Ended.WriteFault) }
 {
     match load(alloc, bytes) {
         Ok(app) => run_command(alloc, command, app, input, out),
         Err(LoadError::Memory) => Ended::Memory,
-        Err(refusal) => refused(alloc, &refusal),
+        Err(refusal) => refusal_end(alloc, &refusal),
     }
 }

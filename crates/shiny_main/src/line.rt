@@ -2,16 +2,11 @@ ghost use Rattle.std.specs.Prelude.{◌≡◌, IfOk};
 ghost use Rattle.std.specs.Option.{option_map};
 ghost use Rattle.std.specs.List.{list_all};
 ghost use Rattle.session_model.specs.Lines.{is_label, is_label_byte};
-ghost use Rattle.shiny_main.specs.Spoken.{spoken, spoken_in, spoken_behind, line_said, LineIsSpoken};
+ghost use Rattle.shiny_main.specs.inner.Spoken.{spoken_line, spoken_in, spoken_behind, line_said, LineIsSpoken};
 
 use rx_value::{Memory, RxText};
+use session_model::{LABEL_LIMIT, LINE_LIMIT};
 use std::alloc::Global;
-
-/// The most bytes of a line, without its line feed.
-pub const LINE_LIMIT: usize = 70_000;
-
-/// The most bytes of a session's name.
-const LABEL_LIMIT: usize = 32;
 
 /// What a line of a transcript says.
 #[derive(Debug, Drop)]
@@ -73,7 +68,7 @@ fn said_in(line: &str) -> Option<Said<'_>>
 }
 
 fn said_by(line: &[u8]) -> Option<Said<'_>>
-    ensures { option_map line_said result ≡ spoken line.now }
+    ensures { option_map line_said result ≡ spoken_line line.now }
 {
     if line.len() > LINE_LIMIT {
         return None;
@@ -107,8 +102,8 @@ fn line_said(alloc: Global, said: Said<'_>) -> Result<Line, Memory>
 
 /// What a line says, or nothing where it is too long, isn't UTF-8 or has no such form, whatever
 /// tasks there are.
-pub fn spoken(alloc: Global, line: &[u8]) -> Result<Option<Line>, Memory>
-    ensures { IfOk result (λ says. says ≡ spoken line.now) }
+pub fn spoken_line(alloc: Global, line: &[u8]) -> Result<Option<Line>, Memory>
+    ensures { IfOk result (λ says. says ≡ spoken_line line.now) }
 {
     match said_by(line) {
         Some(said) => {

@@ -1,18 +1,16 @@
 //! The lines of a transcript, read from a source one at a time.
 
 ghost use Rattle.std.specs.Prelude.{◌≡◌, ◌≤◌, ◌+◌, length, IfOk};
-ghost use Rattle.shiny_main.specs.Lines.{at_start, IsOfSource, NextGives, TellGives, PastIsHere};
-ghost use Rattle.rx_ports.specs.Faults.{Rose};
+ghost use Rattle.shiny_main.specs.inner.Lines.{at_start, IsOfSource, NextGives, TellGives, PastIsHere};
+ghost use Rattle.shiny_main.specs.Ports.{CountsFaults};
 
-use crate::line::{LINE_LIMIT, Line, spoken};
+use crate::line::{Line, spoken_line};
 use crate::pieces::{Cut, Pieces};
 use rx_ports::Source;
 use rx_value::Memory;
+use session_model::{LINE_LIMIT, TRANSCRIPT_LIMIT};
 use std::alloc::Global;
 use std::marker::Model;
-
-/// The most bytes of a transcript.
-const TRANSCRIPT_LIMIT: usize = 67_108_864;
 
 /// The lines of a source, one at a time.
 #[derive(Debug, Drop)]
@@ -25,14 +23,14 @@ pub struct Lines {
 
 impl Model for Lines {
     ghost use Rattle.std.specs.Prelude.{suc, ◌≤◌};
-    ghost use Rattle.session_model.specs.Transcript.{transcript_limit};
-    ghost use Rattle.shiny_main.specs.Lines.{LinesState};
+    ghost use Rattle.shiny_main.specs.inner.Lines.{LinesState};
+    ghost use Rattle.session_model.specs.declared.limits.TheConstants.{TRANSCRIPT_LIMIT};
 
     ghost Value = { LinesState };
 
     ghost view = { λ l. record { taken = l.pieces; number = l.number; behind = l.behind; ended = l.ended } };
 
-    ghost invariant = { λ l. (l.number ≤ suc l.behind) × (l.behind ≤ transcript_limit) };
+    ghost invariant = { λ l. (l.number ≤ suc l.behind) × (l.behind ≤ TRANSCRIPT_LIMIT) };
 }
 
 /// The next line of a source.
@@ -67,8 +65,7 @@ impl Lines {
     pub fn next<S: Source>(&mut self, alloc: Global, input: &mut S) -> LineRead
         requires { IsOfSource self.old (S.left input.old) }
         ensures gives { NextGives self.old self.new (S.left input.old) (S.left input.new) result }
-        ensures later { S.faults input.old ≤ S.faults input.new }
-        ensures failed { result ≡ LineRead.ReadFault → Rose (S.faults input.old) (S.faults input.new) }
+        ensures faults { CountsFaults S.faults input.old input.new (result ≡ LineRead.ReadFault) }
     {
         if self.ended {
             return LineRead::End;
@@ -96,7 +93,7 @@ impl Lines {
         if line.len() > room || room - line.len() < feeds {
             return LineRead::Bad(self.number);
         }
-        match spoken(alloc, line) {
+        match spoken_line(alloc, line) {
             Ok(Some(said)) => {
                 let number = self.number;
                 self.number += 1;

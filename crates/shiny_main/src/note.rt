@@ -1,5 +1,6 @@
-ghost use Rattle.std.specs.Prelude.{◌≡◌, ◌++◌, IfOk, codes};
-ghost use Rattle.shiny_main.specs.Notes.{note_on, line_head, line_text, IsNoted, Tells, TellsMade, NoteFaults, MadeFaults, TellFaults};
+ghost use Rattle.std.specs.Prelude.{◌≡◌, ◌⊎◌, ◌++◌, IfOk, codes};
+ghost use Rattle.shiny_main.specs.Ports.{HasFailed};
+ghost use Rattle.shiny_main.specs.Notes.{note_on, line_head, line_text, IsNoted, Tells, TellsMade};
 
 use crate::ended::Ended;
 use crate::status::Status;
@@ -58,23 +59,25 @@ fn note_on(alloc: Global, file: &str, ended: &Ended) -> Result<RxText, Memory>
     }
 }
 
-/// Writes a note that tells a status; where it can't be written, that is the status.
-fn put_note<N: Sink>(text: &str, told: Status, note: &mut N) -> Status
-    ensures gives { IsNoted text.now told (N.held note.old) (N.held note.new) result }
-    ensures failed { NoteFaults told (N.faults note.old) (N.faults note.new) result }
+/// Writes the note of an end that has this status; where it can't be written, that is the status.
+fn put_note<N: Sink>(text: &str, end: Status, note: &mut N) -> Status
+    ensures gives { IsNoted text.now end (N.held note.old) (N.held note.new) result }
+    ensures failed { result ≡ Status.WriteFault
+        → (end ≡ Status.WriteFault) ⊎ HasFailed N.faults note.old note.new }
 {
     match note.put(text.as_bytes()) {
-        Put::Ok => told,
+        Put::Ok => end,
         Put::Failed => Status::WriteFault,
     }
 }
 
-fn put_made<N: Sink>(text: Result<RxText, Memory>, told: Status, note: &mut N) -> Status
-    ensures gives { TellsMade text told (N.held note.old) (N.held note.new) result }
-    ensures failed { MadeFaults text told (N.faults note.old) (N.faults note.new) result }
+fn put_made<N: Sink>(text: Result<RxText, Memory>, end: Status, note: &mut N) -> Status
+    ensures gives { TellsMade text end (N.held note.old) (N.held note.new) result }
+    ensures failed { result ≡ Status.WriteFault
+        → (end ≡ Status.WriteFault) ⊎ HasFailed N.faults note.old note.new }
 {
     match text {
-        Ok(text) => put_note(text.as_str(), told, note),
+        Ok(text) => put_note(text.as_str(), end, note),
         Err(Memory) => put_note(OUT_OF_MEMORY, Status::Memory, note),
     }
 }
@@ -83,7 +86,8 @@ fn put_made<N: Sink>(text: Result<RxText, Memory>, told: Status, note: &mut N) -
 /// written, or that there was no memory to make it.
 pub fn tell<N: Sink>(alloc: Global, file: &str, ended: &Ended, note: &mut N) -> Status
     ensures gives { Tells file.now ended.now (N.held note.old) (N.held note.new) result }
-    ensures failed { TellFaults ended.now (N.faults note.old) (N.faults note.new) result }
+    ensures failed { result ≡ Status.WriteFault
+        → (ended.now ≡ Ended.WriteFault) ⊎ HasFailed N.faults note.old note.new }
 {
     match ended {
         Ended::Done | Ended::WriteFault => ended.status(),

@@ -1,8 +1,8 @@
 //! The bytes of a source, cut at line feeds.
 
 ghost use Rattle.std.specs.Prelude.{◌≡◌, ◌==◌, ◌<◌, ◌≤◌, [], length, position, IfOk};
-ghost use Rattle.shiny_main.specs.Pieces.{is_feed, feed_place, Moves, Replaces, RefillGives, Grows, StepGives, last_line, CutGives, content};
-ghost use Rattle.rx_ports.specs.Faults.{Rose};
+ghost use Rattle.shiny_main.specs.inner.Pieces.{is_feed, feed_place, Moves, Replaces, RefillGives, Grows, StepGives, last_line, CutGives, content};
+ghost use Rattle.shiny_main.specs.Ports.{CountsFaults};
 ghost use Rattle.std.specs.Io.KnownBytes.{prepend_known};
 ghost use Rattle.session_model.specs.Lines.{HasNoFeed};
 
@@ -105,8 +105,7 @@ impl Pieces {
     fn refill<S: Source>(&mut self, source: &mut S) -> Step
         requires { self.old ≡ [] }
         ensures gives { RefillGives (S.left source.old) self.new (S.left source.new) result }
-        ensures later { S.faults source.old ≤ S.faults source.new }
-        ensures failed { result ≡ Step.Failed → Rose (S.faults source.old) (S.faults source.new) }
+        ensures faults { CountsFaults S.faults source.old source.new (result ≡ Step.Failed) }
     {
         let mut buffer = [0u8; PIECE];
         match source.take(&mut buffer) {
@@ -137,9 +136,9 @@ impl Pieces {
 
     fn step<S: Source>(&mut self, source: &mut S, line: &mut RxBytes) -> Step
         requires { HasNoFeed line.old }
-        ensures gives { StepGives (content line.old self.old (S.left source.old)) line.old line.new self.new (S.left source.new) result }
-        ensures later { S.faults source.old ≤ S.faults source.new }
-        ensures failed { result ≡ Step.Failed → Rose (S.faults source.old) (S.faults source.new) }
+        ensures gives { StepGives (content line.old self.old (S.left source.old)) line.old line.new self.new
+            (S.left source.new) result }
+        ensures faults { CountsFaults S.faults source.old source.new (result ≡ Step.Failed) }
     {
         if !self.is_empty() {
             return self.grow(line);
@@ -165,9 +164,9 @@ impl Pieces {
     /// The next line, where it has at most so many bytes. After any answer but `Line` no further call
     /// is of use.
     pub fn next<S: Source>(&mut self, alloc: Global, source: &mut S, most: usize) -> Cut
-        ensures gives { CutGives most (prepend_known self.old (S.left source.old)) self.new (S.left source.new) result }
-        ensures later { S.faults source.old ≤ S.faults source.new }
-        ensures failed { result ≡ Cut.Failed → Rose (S.faults source.old) (S.faults source.new) }
+        ensures gives { CutGives most (prepend_known self.old (S.left source.old)) self.new
+            (S.left source.new) result }
+        ensures faults { CountsFaults S.faults source.old source.new (result ≡ Cut.Failed) }
     {
         let mut line = RxBytes::new(alloc);
         'growing: while line.len() <= most {

@@ -2,7 +2,7 @@
 //! contents, and count their faults.
 
 ghost use Rattle.std.specs.Prelude.{◌≡◌, ◌≤◌, None};
-ghost use Rattle.shiny_main.specs.Fronts.{IsWithin};
+ghost use Rattle.shiny_main.specs.inner.Fronts.{IsWithin};
 ghost use Rattle.rx_ports.specs.Faults.{one_more};
 
 use rx_ports::{FileRead, Files, Put, RxBytes, Sink, Source, Take};
@@ -146,7 +146,7 @@ impl<W: Write> Sink for Writing<W> {
     ghost faults = { λ s. s.faults };
 
     fn put(&mut self, bytes: &[u8]) -> Put {
-        match written(&mut self.writer, bytes) {
+        match write_through(&mut self.writer, bytes) {
             Ok(()) => Put::Ok,
             Err(_) => {
                 self.faults = self.faults.saturating_add(1);
@@ -161,7 +161,7 @@ impl<W: Write> Sink for Writing<W> {
 }
 
 /// Writes all the bytes through to the reader's end.
-fn written<W: Write>(writer: &mut W, bytes: &[u8]) -> io::Result<()> {
+fn write_through<W: Write>(writer: &mut W, bytes: &[u8]) -> io::Result<()> {
     writer.write_all(bytes)?;
     writer.flush()
 }

@@ -3,20 +3,18 @@ ghost use Rattle.app_tree.specs.View.{shape_of};
 ghost use Rattle.session_model.specs.Transcript.{Open, recv};
 ghost use Rattle.session_model.specs.TakenLines.{taken_line};
 ghost use Rattle.flush_cycle.specs.Built.{IsBuilt};
-ghost use Rattle.shiny_main.specs.Spoken.{numbered};
-ghost use Rattle.shiny_main.specs.Replaying.{AnswersFirst, HoldsOpen, IsShort, HoldsSession, Updates, TakesLine};
+ghost use Rattle.shiny_main.specs.inner.Spoken.{numbered_line};
+ghost use Rattle.shiny_main.specs.inner.Replaying.{AnswersFirst, HoldsOpen, IsShort, Updates, TakesLine, TakesAsHeld};
 
 use crate::line::Line;
 use crate::session::{Answered, OpenSession, answer_first, answer_later};
 use app_tree::App;
 use flush_cycle::{Stage, read_taken};
 use rx_value::{Memory, RxText};
+use session_model::TAKEN_LINE_LIMIT;
 use shiny_json::ClientData;
 use std::alloc::Global;
 use std::sync::Arc;
-
-/// The most lines that are taken today.
-const LINE_COUNT_LIMIT: u64 = 200;
 
 /// What a line of the transcript came to.
 #[derive(Drop)]
@@ -29,7 +27,7 @@ pub enum Taken {
 }
 
 /// Opens a session of this label with its init.
-fn opened(
+fn open_session(
     alloc: Global,
     app: &Arc<App>,
     label: &RxText,
@@ -49,14 +47,17 @@ fn first_recv(
     text: &RxText,
 ) -> Result<Taken, Memory>
     requires { IsBuilt (shape_of app.now.value) }
-    ensures { IfOk result (λ t. TakesLine (shape_of app.now.value) number [] (taken_line (shape_of app.now.value) number [] (Some (recv label.now text.now))) t) }
+    ensures { IfOk result
+        (TakesLine (shape_of app.now.value) number []
+        (taken_line (shape_of app.now.value) number []
+        (Some (recv label.now text.now)))) }
 {
-    if number > LINE_COUNT_LIMIT {
+    if number > TAKEN_LINE_LIMIT {
         return Ok(Taken::Bad);
     }
     match read_taken(alloc, app, true, text)? {
         Some(pairs) => {
-            let answered = opened(alloc, app, label, &pairs)?;
+            let answered = open_session(alloc, app, label, &pairs)?;
             Ok(Taken::Answered(answered))
         }
         None => Ok(Taken::Bad),
@@ -71,9 +72,12 @@ fn later_recv(
     label: &RxText,
     text: &RxText,
 ) -> Result<Taken, Memory>
-    ensures { IfOk result (λ t. (s : Open) → HoldsOpen (shape_of app.now) s session → IsShort number s → TakesLine (shape_of app.now) number (s ∷ []) (taken_line (shape_of app.now) number (s ∷ []) (Some (recv label.now text.now))) t) }
+    ensures { IfOk result (λ t. (s : Open) → HoldsOpen (shape_of app.now) s session → IsShort number s
+        → TakesLine (shape_of app.now) number (s ∷ [])
+        (taken_line (shape_of app.now) number (s ∷ [])
+        (Some (recv label.now text.now))) t) }
 {
-    if number > LINE_COUNT_LIMIT {
+    if number > TAKEN_LINE_LIMIT {
         return Ok(Taken::Bad);
     }
     if label.as_str() != session.label.as_str() {
@@ -106,7 +110,8 @@ fn take_recv(
     text: &RxText,
 ) -> Result<Taken, Memory>
     requires { IsBuilt (shape_of app.now.value) }
-    ensures { IfOk result (λ t. (s : List Open) → HoldsSession (shape_of app.now.value) number s session → TakesLine (shape_of app.now.value) number s (taken_line (shape_of app.now.value) number s (Some (recv label.now text.now))) t) }
+    ensures { IfOk result
+        (TakesAsHeld (shape_of app.now.value) number session (Some (recv label.now text.now))) }
 {
     match session {
         None => first_recv(alloc, app, number, label, text),
@@ -123,7 +128,9 @@ pub fn take_line(
     said: Line,
 ) -> Result<Taken, Memory>
     requires { IsBuilt (shape_of app.now.value) }
-    ensures { IfOk result (λ t. (s : List Open) → HoldsSession (shape_of app.now.value) number s session → TakesLine (shape_of app.now.value) number s (taken_line (shape_of app.now.value) number s (numbered (shape_of app.now.value).items said)) t) }
+    ensures { IfOk result
+        (TakesAsHeld (shape_of app.now.value) number session
+        (numbered_line (shape_of app.now.value).items said)) }
 {
     match said {
         Line::Recv(label, text) => take_recv(alloc, app, session, number, &label, &text),

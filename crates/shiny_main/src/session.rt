@@ -3,7 +3,7 @@ ghost use Rattle.app_tree.specs.View.{shape_of};
 ghost use Rattle.session_model.specs.WrittenLines.{send_lines, over_text};
 ghost use Rattle.flush_cycle.specs.Built.{IsBuilt};
 ghost use Rattle.flush_cycle.specs.Flushing.{flushed_by};
-ghost use Rattle.shiny_main.specs.Replaying.{AnswersFirst, AnswersLater, event_lines};
+ghost use Rattle.shiny_main.specs.inner.Replaying.{AnswersFirst, AnswersLater, event_lines};
 
 use app_tree::App;
 use flush_cycle::{Flushed, Flusher, Stage, Texts};
@@ -27,7 +27,8 @@ pub struct Answered {
 }
 
 fn push_send(output: &mut RxText, label: &RxText, text: &RxText) -> Result<(), Memory>
-    ensures { OnOk result (output.new ≡ output.old ++ (label.now ++ codes " send " ++ text.now ++ codes "\n")) }
+    ensures { OnOk result (output.new ≡ output.old ++ (label.now ++ codes " send " ++ text.now
+        ++ codes "\n")) }
 {
     output.push_str(label.as_str())?;
     output.push_str(" send ")?;
@@ -79,7 +80,7 @@ pub fn answer_first(
 {
     let mut flusher = Flusher::new(alloc, app)?;
     let label = label.copy(alloc)?;
-    let (texts, over) = sent(flusher.init(alloc, &label, pairs))?;
+    let (texts, over) = flushed_texts(flusher.init(alloc, &label, pairs))?;
     let output = event_output(alloc, &label, &texts, over)?;
     let session = OpenSession { label, flusher };
     Ok(Answered { session, output })
@@ -95,13 +96,13 @@ pub fn answer_later(
     ensures { IfOk result (λ a. AnswersLater session pairs.now a) }
 {
     let OpenSession { label, mut flusher } = session;
-    let (texts, over) = sent(flusher.update(alloc, pairs))?;
+    let (texts, over) = flushed_texts(flusher.update(alloc, pairs))?;
     let output = event_output(alloc, &label, &texts, over)?;
     let session = OpenSession { label, flusher };
     Ok(Answered { session, output })
 }
 
-fn sent(flushed: Flushed) -> Result<(Texts, bool), Memory>
+fn flushed_texts(flushed: Flushed) -> Result<(Texts, bool), Memory>
     ensures { IfOk result (λ s. flushed ≡ flushed_by s.0 s.1) }
 {
     match flushed {

@@ -1,20 +1,17 @@
-ghost use Rattle.std.specs.Prelude.{◌≡◌, ◌≤◌};
-ghost use Rattle.rx_ports.specs.Faults.{Rose};
-ghost use Rattle.shiny_main.specs.Ends as ends;
+ghost use Rattle.std.specs.Prelude.{◌≡◌, ◌⊎◌};
+ghost use Rattle.shiny_main.specs.Ports.{ports, HasFailed, CountsFaults};
 ghost use Rattle.shiny_main.specs.Words.{words_of};
 ghost use Rattle.shiny_main.specs.Notes.{file_of};
-ghost use Rattle.shiny_main.specs.Top.{FileGives, WordsGive, RunGives, FileFaults, InputFaults, OutputFaults, IsTaken, IsDoneOrMemory};
+ghost use Rattle.shiny_main.specs.Top.{FileGives, WordsGive, RunGives, IsTaken, IsDoneOrMemory};
 
 use crate::commands::run_app;
 use crate::ended::Ended;
 use crate::note::tell;
 use crate::status::Status;
 use crate::words::{Command, words_of};
+use app_check::FILE_LIMIT;
 use rx_ports::{FileRead, Files, Sink, Source};
 use std::alloc::Global;
-
-/// The most bytes of an app file.
-const FILE_LIMIT: usize = 262_144;
 
 fn run_file<F: Files, S: Source, K: Sink>(
     alloc: Global,
@@ -24,11 +21,12 @@ fn run_file<F: Files, S: Source, K: Sink>(
     input: &mut S,
     out: &mut K,
 ) -> Ended
-    ensures gives { FileGives command file.now (F.told files.old) (record { left = S.left input.old; left_after = S.left input.new; held = K.held out.old; held_after = K.held out.new }) result }
-    ensures told { F.told files.new ≡ F.told files.old }
-    ensures file { ends.FileFaults (F.faults files.old) (F.faults files.new) result }
-    ensures read { ends.InputFaults (S.faults input.old) (S.faults input.new) result }
-    ensures write { ends.OutputFaults (K.faults out.old) (K.faults out.new) result }
+    ensures gives { FileGives command file.now (F.told files.old)
+        (ports S.left K.held input.old input.new out.old out.new) result }
+    ensures files { F.told files.new ≡ F.told files.old }
+    ensures file { CountsFaults F.faults files.old files.new (result ≡ Ended.FileFault) }
+    ensures read { CountsFaults S.faults input.old input.new (result ≡ Ended.ReadFault) }
+    ensures write { CountsFaults K.faults out.old out.new (result ≡ Ended.WriteFault) }
 {
     match files.read(alloc, file, FILE_LIMIT) {
         FileRead::Found(bytes) => run_app(alloc, command, bytes.as_slice(), input, out),
@@ -45,11 +43,12 @@ fn run_words<F: Files, S: Source, K: Sink>(
     input: &mut S,
     out: &mut K,
 ) -> Ended
-    ensures gives { WordsGive (words_of words.now) (F.told files.old) (record { left = S.left input.old; left_after = S.left input.new; held = K.held out.old; held_after = K.held out.new }) result }
-    ensures told { F.told files.new ≡ F.told files.old }
-    ensures file { ends.FileFaults (F.faults files.old) (F.faults files.new) result }
-    ensures read { ends.InputFaults (S.faults input.old) (S.faults input.new) result }
-    ensures write { ends.OutputFaults (K.faults out.old) (K.faults out.new) result }
+    ensures gives { WordsGive (words_of words.now) (F.told files.old)
+        (ports S.left K.held input.old input.new out.old out.new) result }
+    ensures files { F.told files.new ≡ F.told files.old }
+    ensures file { CountsFaults F.faults files.old files.new (result ≡ Ended.FileFault) }
+    ensures read { CountsFaults S.faults input.old input.new (result ≡ Ended.ReadFault) }
+    ensures write { CountsFaults K.faults out.old out.new (result ≡ Ended.WriteFault) }
 {
     match words_of(words) {
         Some(words) => run_file(alloc, words.command, words.file, files, input, out),
@@ -75,11 +74,14 @@ fn run_and_tell<F: Files, S: Source, K: Sink, N: Sink>(
     out: &mut K,
     note: &mut N,
 ) -> Status
-    ensures gives { RunGives words.now (F.told files.old) (record { left = S.left input.old; left_after = S.left input.new; held = K.held out.old; held_after = K.held out.new }) (N.held note.old) (N.held note.new) result }
-    ensures told { F.told files.new ≡ F.told files.old }
-    ensures file { FileFaults (F.faults files.old) (F.faults files.new) result }
-    ensures read { InputFaults (S.faults input.old) (S.faults input.new) result }
-    ensures write { OutputFaults (K.faults out.old) (K.faults out.new) (N.faults note.old) (N.faults note.new) result }
+    ensures gives { RunGives words.now (F.told files.old)
+        (ports S.left K.held input.old input.new out.old out.new)
+        (N.held note.old) (N.held note.new) result }
+    ensures files { F.told files.new ≡ F.told files.old }
+    ensures file { CountsFaults F.faults files.old files.new (result ≡ Status.FileFault) }
+    ensures read { CountsFaults S.faults input.old input.new (result ≡ Status.ReadFault) }
+    ensures write { result ≡ Status.WriteFault
+        → HasFailed K.faults out.old out.new ⊎ HasFailed N.faults note.old note.new }
 {
     let ended = run_words(alloc, words, files, input, out);
     tell(alloc, file_of(words), &ended, note)
@@ -99,12 +101,18 @@ pub fn run_text<F: Files, S: Source, K: Sink, N: Sink>(
     out: &mut K,
     note: &mut N,
 ) -> Status
-    ensures gives { RunGives words.now (F.told files.old) (record { left = S.left input.old; left_after = S.left input.new; held = K.held out.old; held_after = K.held out.new }) (N.held note.old) (N.held note.new) result }
-    ensures told { F.told files.new ≡ F.told files.old }
-    ensures file { FileFaults (F.faults files.old) (F.faults files.new) result }
-    ensures read { InputFaults (S.faults input.old) (S.faults input.new) result }
-    ensures write { OutputFaults (K.faults out.old) (K.faults out.new) (N.faults note.old) (N.faults note.new) result }
-    ensures complete { IsTaken words.now (F.told files.old) (S.left input.old) → ¬ Rose (F.faults files.old) (F.faults files.new) → ¬ Rose (S.faults input.old) (S.faults input.new) → ¬ Rose (K.faults out.old) (K.faults out.new) → ¬ Rose (N.faults note.old) (N.faults note.new) → IsDoneOrMemory result }
+    ensures gives { RunGives words.now (F.told files.old)
+        (ports S.left K.held input.old input.new out.old out.new)
+        (N.held note.old) (N.held note.new) result }
+    ensures files { F.told files.new ≡ F.told files.old }
+    ensures file { CountsFaults F.faults files.old files.new (result ≡ Status.FileFault) }
+    ensures read { CountsFaults S.faults input.old input.new (result ≡ Status.ReadFault) }
+    ensures write { result ≡ Status.WriteFault
+        → HasFailed K.faults out.old out.new ⊎ HasFailed N.faults note.old note.new }
+    ensures complete { IsTaken words.now (F.told files.old) (S.left input.old)
+        → ¬ HasFailed F.faults files.old files.new → ¬ HasFailed S.faults input.old input.new
+        → ¬ HasFailed K.faults out.old out.new → ¬ HasFailed N.faults note.old note.new
+        → IsDoneOrMemory result }
 {
     run_and_tell(alloc, words, files, input, out, note)
 }

@@ -1,10 +1,11 @@
-ghost use Rattle.std.specs.Prelude.{◌≡◌, ◌≤◌, List, [], IfOk, codes};
+ghost use Rattle.std.specs.Prelude.{◌≡◌, ◌≢◌, List, IfOk, codes};
 ghost use Rattle.app_tree.specs.View.{shape_of};
 ghost use Rattle.session_model.specs.Transcript.{Open};
 ghost use Rattle.session_model.specs.WrittenLines.{over_text};
-ghost use Rattle.shiny_main.specs.Lines.{at_start, IsOfSource};
+ghost use Rattle.shiny_main.specs.inner.Lines.{at_start, IsOfSource};
 ghost use Rattle.flush_cycle.specs.Built.{IsBuilt};
-ghost use Rattle.shiny_main.specs.Replaying.{HoldsSession, HasFewBehind, ReplayGives, ReadFaults, PutsAnswer, PutsOver, ClosesOpen, Closes, AnswersTaken, TurnGives, WriteFaults, TurnReadFaults, TurnWriteFaults};
+ghost use Rattle.shiny_main.specs.Ports.{ports, CountsFaults};
+ghost use Rattle.shiny_main.specs.inner.Replaying.{HoldsSession, HasFewBehind, WholeReplayGives, PutsAnswer, PutsOver, ClosesOpen, Closes, AnswersTaken, TurnGives};
 
 use crate::lines::{LineRead, Lines};
 use crate::replay::{Taken, take_line};
@@ -41,8 +42,7 @@ pub enum Turn {
 
 fn put_answer<K: Sink>(out: &mut K, answered: Answered) -> Turn
     ensures gives { PutsAnswer answered (K.held out.old) (K.held out.new) result }
-    ensures later { K.faults out.old ≤ K.faults out.new }
-    ensures failed { TurnWriteFaults (K.faults out.old) (K.faults out.new) result }
+    ensures faults { CountsFaults K.faults out.old out.new (result ≡ Turn.Ends Replayed.WriteFault) }
 {
     let Answered { session, output } = answered;
     match out.put(output.as_str().as_bytes()) {
@@ -62,8 +62,7 @@ fn over_line(alloc: Global, label: &RxText) -> Result<RxText, Memory>
 /// Ends the links of the sessions that are open.
 fn close<K: Sink>(alloc: Global, session: Option<OpenSession>, out: &mut K) -> Replayed
     ensures gives { Closes session (K.held out.old) (K.held out.new) result }
-    ensures later { K.faults out.old ≤ K.faults out.new }
-    ensures failed { WriteFaults (K.faults out.old) (K.faults out.new) result }
+    ensures faults { CountsFaults K.faults out.old out.new (result ≡ Replayed.WriteFault) }
 {
     match session {
         Some(session) => close_open(alloc, session, out),
@@ -73,8 +72,7 @@ fn close<K: Sink>(alloc: Global, session: Option<OpenSession>, out: &mut K) -> R
 
 fn close_open<K: Sink>(alloc: Global, session: OpenSession, out: &mut K) -> Replayed
     ensures gives { ClosesOpen session (K.held out.old) (K.held out.new) result }
-    ensures later { K.faults out.old ≤ K.faults out.new }
-    ensures failed { WriteFaults (K.faults out.old) (K.faults out.new) result }
+    ensures faults { CountsFaults K.faults out.old out.new (result ≡ Replayed.WriteFault) }
 {
     match session.flusher.stage() {
         Stage::Open => put_over(alloc, &session.label, out),
@@ -84,8 +82,7 @@ fn close_open<K: Sink>(alloc: Global, session: OpenSession, out: &mut K) -> Repl
 
 fn put_over<K: Sink>(alloc: Global, label: &RxText, out: &mut K) -> Replayed
     ensures gives { PutsOver label.now (K.held out.old) (K.held out.new) result }
-    ensures later { K.faults out.old ≤ K.faults out.new }
-    ensures failed { WriteFaults (K.faults out.old) (K.faults out.new) result }
+    ensures faults { CountsFaults K.faults out.old out.new (result ≡ Replayed.WriteFault) }
 {
     match over_line(alloc, label) {
         Ok(line) => match out.put(line.as_str().as_bytes()) {
@@ -107,11 +104,11 @@ fn take_turn<S: Source, K: Sink>(
     requires built { IsBuilt (shape_of app.now.value) }
     requires lines { IsOfSource lines.old (S.left input.old) }
     requires short { HasFewBehind lines.old }
-    ensures gives { (s : List Open) → HoldsSession (shape_of app.now.value) lines.old.number s session → TurnGives (shape_of app.now.value) s lines.old lines.new (S.left input.old) (S.left input.new) (K.held out.old) (K.held out.new) result }
-    ensures read_later { S.faults input.old ≤ S.faults input.new }
-    ensures write_later { K.faults out.old ≤ K.faults out.new }
-    ensures read { TurnReadFaults (S.faults input.old) (S.faults input.new) result }
-    ensures write { TurnWriteFaults (K.faults out.old) (K.faults out.new) result }
+    ensures gives { (s : List Open) → HoldsSession (shape_of app.now.value) lines.old.number s session
+        → TurnGives (shape_of app.now.value) s lines.old lines.new
+        (ports S.left K.held input.old input.new out.old out.new) result }
+    ensures read { CountsFaults S.faults input.old input.new (result ≡ Turn.Ends Replayed.ReadFault) }
+    ensures write { CountsFaults K.faults out.old out.new (result ≡ Turn.Ends Replayed.WriteFault) }
 {
     match lines.next(alloc, input) {
         LineRead::Line(number, said) => {
@@ -127,9 +124,8 @@ fn take_turn<S: Source, K: Sink>(
 
 fn answer_taken<K: Sink>(taken: Result<Taken, Memory>, number: u64, out: &mut K) -> Turn
     ensures gives { AnswersTaken taken number (K.held out.old) (K.held out.new) result }
-    ensures later { K.faults out.old ≤ K.faults out.new }
-    ensures failed { TurnWriteFaults (K.faults out.old) (K.faults out.new) result }
-    ensures read { TurnReadFaults 0 0 result }
+    ensures faults { CountsFaults K.faults out.old out.new (result ≡ Turn.Ends Replayed.WriteFault) }
+    ensures read { result ≢ Turn.Ends Replayed.ReadFault }
 {
     match taken {
         Ok(Taken::Answered(answered)) => put_answer(out, answered),
@@ -148,11 +144,10 @@ fn replay_lines<S: Source, K: Sink>(
 ) -> Replayed
     requires built { IsBuilt (shape_of app.now.value) }
     requires start { lines ≡ at_start }
-    ensures gives { ReplayGives (shape_of app.now.value) 1 [] (S.left input.old) (S.left input.new) (K.held out.old) (K.held out.new) result }
-    ensures read_later { S.faults input.old ≤ S.faults input.new }
-    ensures write_later { K.faults out.old ≤ K.faults out.new }
-    ensures read { ReadFaults (S.faults input.old) (S.faults input.new) result }
-    ensures write { WriteFaults (K.faults out.old) (K.faults out.new) result }
+    ensures gives { WholeReplayGives (shape_of app.now.value)
+        (ports S.left K.held input.old input.new out.old out.new) result }
+    ensures read { CountsFaults S.faults input.old input.new (result ≡ Replayed.ReadFault) }
+    ensures write { CountsFaults K.faults out.old out.new (result ≡ Replayed.WriteFault) }
 {
     let mut lines = lines;
     let mut session = None;
@@ -172,11 +167,10 @@ pub fn replay<S: Source, K: Sink>(
     out: &mut K,
 ) -> Replayed
     requires { IsBuilt (shape_of app.now.value) }
-    ensures gives { ReplayGives (shape_of app.now.value) 1 [] (S.left input.old) (S.left input.new) (K.held out.old) (K.held out.new) result }
-    ensures read_later { S.faults input.old ≤ S.faults input.new }
-    ensures write_later { K.faults out.old ≤ K.faults out.new }
-    ensures read { ReadFaults (S.faults input.old) (S.faults input.new) result }
-    ensures write { WriteFaults (K.faults out.old) (K.faults out.new) result }
+    ensures gives { WholeReplayGives (shape_of app.now.value)
+        (ports S.left K.held input.old input.new out.old out.new) result }
+    ensures read { CountsFaults S.faults input.old input.new (result ≡ Replayed.ReadFault) }
+    ensures write { CountsFaults K.faults out.old out.new (result ≡ Replayed.WriteFault) }
 {
     match Lines::new(alloc) {
         Ok(lines) => replay_lines(alloc, app, lines, input, out),

@@ -1,7 +1,10 @@
 //! Where the marks stand.
 
 ghost use Rattle.std.specs.Prelude.{◌≡◌, ◌≤◌, ◌<◌, ◌*◌, ◌/◌, ◌<ℤ◌, ◌≤ℤ◌, pos, length};
+ghost use Rattle.rx_value.specs.declared.limits.TheConstants.{PLOT_SIDE_MIN, PLOT_SIDE_MAX};
 ghost use Rattle.rx_value.specs.Plot.{least, greatest, upper_end};
+
+use rx_value::{PLOT_SIDE_MAX, PLOT_SIDE_MIN};
 
 /// What the marks are placed by. Pixels are counted from the left and from the top.
 #[derive(Drop)]
@@ -15,10 +18,10 @@ pub struct Frame {
     /// these are both 0.
     pub low: i64,
     pub high: i64,
-    ghost least_width: { 64 ≤ width },
-    ghost greatest_width: { width ≤ 4096 },
-    ghost least_height: { 64 ≤ height },
-    ghost greatest_height: { height ≤ 4096 },
+    ghost least_width: { PLOT_SIDE_MIN ≤ width },
+    ghost greatest_width: { width ≤ PLOT_SIDE_MAX },
+    ghost least_height: { PLOT_SIDE_MIN ≤ height },
+    ghost greatest_height: { height ≤ PLOT_SIDE_MAX },
     ghost ends: { low <ℤ high },
 }
 
@@ -66,14 +69,14 @@ fn share(part: usize, whole: usize, length: u32) -> u32
 impl Frame {
     ghost use Rattle.std.specs.Prelude.{◌+◌};
     ghost use Rattle.rx_value.specs.Plot.{frame_of, y_of, edge_of, x_of};
-    ghost use Rattle.svg_plot.specs.Seen.{seen};
+    ghost use Rattle.svg_plot.specs.inner.Seen.{seen_frame};
 
     pub fn new(width: u32, height: u32, numbers: &[i64]) -> Frame
-        requires least_width { 64 ≤ width }
-        requires greatest_width { width ≤ 4096 }
-        requires least_height { 64 ≤ height }
-        requires greatest_height { height ≤ 4096 }
-        ensures { seen result ≡ frame_of width height numbers.now }
+        requires least_width { PLOT_SIDE_MIN ≤ width }
+        requires greatest_width { width ≤ PLOT_SIDE_MAX }
+        requires least_height { PLOT_SIDE_MIN ≤ height }
+        requires greatest_height { height ≤ PLOT_SIDE_MAX }
+        ensures { seen_frame result ≡ frame_of width height numbers.now }
     {
         let low = least(numbers);
         let high = upper_end(low, greatest(numbers));
@@ -89,7 +92,7 @@ impl Frame {
     /// The height at which a number stands. Products need 77 bits.
     #[tactic(auto, unfolding(rx_value::specs::Plot::y_of))]
     pub fn y(&self, number: i64) -> u32
-        ensures { result ≡ y_of (seen self.now) number }
+        ensures { result ≡ y_of (seen_frame self.now) number }
     {
         let range = self.high.abs_diff(self.low) as u128;
         let rise = number.abs_diff(self.low) as u128 * (self.height - 40) as u128 / range;
@@ -101,7 +104,7 @@ impl Frame {
     pub fn edge(&self, place: usize) -> u32
         requires some { 0 < self.now.count }
         requires within { place ≤ self.now.count }
-        ensures { result ≡ edge_of (seen self.now) place }
+        ensures { result ≡ edge_of (seen_frame self.now) place }
     {
         10 + share(place, self.count, self.width - 20)
     }
@@ -110,7 +113,7 @@ impl Frame {
     #[tactic(auto, unfolding(rx_value::specs::Plot::x_of))]
     pub fn x(&self, place: usize) -> u32
         requires { place < self.now.count }
-        ensures { result ≡ x_of (seen self.now) place }
+        ensures { result ≡ x_of (seen_frame self.now) place }
     {
         let room = self.width - 20;
         if self.count == 1 {

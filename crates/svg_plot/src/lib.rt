@@ -8,13 +8,12 @@ mod error;
 mod frame;
 mod marks;
 mod picture;
-#[cfg(test)]
-mod tests;
 mod title;
 
 ghost use Rattle.std.specs.Prelude.{◌≡◌, IfOk};
 ghost use Rattle.rx_value.specs.Plot.{svg_text, plot_result};
-ghost use Rattle.svg_plot.specs.Answers.{Gives};
+ghost use Rattle.rx_value.specs.Results.{GivesOrMemory};
+ghost use Rattle.svg_plot.specs.inner.Answers.{refusal};
 
 use error::PlotError;
 use picture::sized;
@@ -30,7 +29,7 @@ fn svg_text(
     title: &Value,
     list: &Value,
 ) -> Result<RxText, PlotError>
-    ensures { Gives result (svg_text plot width.now height.now title.now list.now) }
+    ensures { GivesOrMemory (λ text. text) refusal result (svg_text plot width.now height.now title.now list.now) }
 {
     let Some(numbers) = list.numbers() else {
         return Err(PlotError::Failed(Failure::WrongKind));

@@ -2,8 +2,8 @@
 
 ghost use Rattle.std.specs.Prelude.{◌≡◌, ◌+◌, ◌∷◌, ◌++◌, ◌<◌, length, codes, string_bytes, IfOk};
 ghost use Rattle.rx_value.specs.Plot.{rect, bar, bars_from, pair, point, spaced_from, polyline, circle, circles_from, x_of, y_of, marks};
-ghost use Rattle.svg_plot.specs.Answers.{Writes};
-ghost use Rattle.svg_plot.specs.Seen.{seen};
+ghost use Rattle.svg_plot.specs.inner.Answers.{Writes};
+ghost use Rattle.svg_plot.specs.inner.Seen.{seen_frame};
 
 use crate::error::PlotError;
 use crate::frame::Frame;
@@ -21,7 +21,7 @@ fn rect(alloc: Global, x: u32, y: u32, width: u32, height: u32) -> Result<String
 /// The bar at `place`, which stands between its number and 0.
 fn bar(alloc: Global, frame: &Frame, place: usize, number: i64) -> Result<String, AllocError>
     requires { place < frame.now.count }
-    ensures { IfOk result (λ text. string_bytes text ≡ bar (seen frame.now) place number) }
+    ensures { IfOk result (λ text. string_bytes text ≡ bar (seen_frame frame.now) place number) }
 {
     let left = frame.edge(place);
     let right = frame.edge(place + 1);
@@ -38,7 +38,7 @@ fn put_bar(
     text: &mut RxText,
 ) -> Result<(), PlotError>
     requires { place < frame.now.count }
-    ensures { Writes text.old (bar (seen frame.now) place number) text.new result }
+    ensures { Writes text.old (bar (seen_frame frame.now) place number) text.new result }
 {
     let bar = bar(alloc, frame, place, number)?;
     put(text, bar.as_str())
@@ -51,7 +51,7 @@ fn put_bars(
     text: &mut RxText,
 ) -> Result<(), PlotError>
     requires { frame.now.count ≡ length numbers.now }
-    ensures { Writes text.old (bars_from (seen frame.now) 0 numbers.now) text.new result }
+    ensures { Writes text.old (bars_from (seen_frame frame.now) 0 numbers.now) text.new result }
 {
     for (place, number) in numbers.iter().enumerate() {
         put_bar(alloc, frame, place, *number, text)?;
@@ -74,7 +74,7 @@ fn put_point(
     text: &mut RxText,
 ) -> Result<(), PlotError>
     requires { place < frame.now.count }
-    ensures { Writes text.old (point (seen frame.now) place number) text.new result }
+    ensures { Writes text.old (point (seen_frame frame.now) place number) text.new result }
 {
     let pair = pair(alloc, frame.x(place), frame.y(number))?;
     put(text, pair.as_str())
@@ -88,7 +88,7 @@ fn put_spaced(
     text: &mut RxText,
 ) -> Result<(), PlotError>
     requires { place < frame.now.count }
-    ensures { Writes text.old (codes " " ++ point (seen frame.now) place number) text.new result }
+    ensures { Writes text.old (codes " " ++ point (seen_frame frame.now) place number) text.new result }
 {
     text.push_str(" ")?;
     put_point(alloc, frame, place, number, text)
@@ -102,7 +102,7 @@ fn put_later(
     text: &mut RxText,
 ) -> Result<(), PlotError>
     requires { frame.now.count ≡ length later.now + 1 }
-    ensures { Writes text.old (spaced_from (seen frame.now) 1 later.now) text.new result }
+    ensures { Writes text.old (spaced_from (seen_frame frame.now) 1 later.now) text.new result }
 {
     for (behind, number) in later.iter().enumerate() {
         put_spaced(alloc, frame, behind + 1, *number, text)?;
@@ -119,7 +119,7 @@ fn put_line(
     text: &mut RxText,
 ) -> Result<(), PlotError>
     requires { frame.now.count ≡ length later.now + 1 }
-    ensures { Writes text.old (polyline (seen frame.now) (first ∷ later.now)) text.new result }
+    ensures { Writes text.old (polyline (seen_frame frame.now) (first ∷ later.now)) text.new result }
 {
     put(text, "<polyline points=\"")?;
     put_point(alloc, frame, 0, first, text)?;
@@ -134,7 +134,7 @@ fn put_polyline(
     text: &mut RxText,
 ) -> Result<(), PlotError>
     requires { frame.now.count ≡ length numbers.now }
-    ensures { Writes text.old (polyline (seen frame.now) numbers.now) text.new result }
+    ensures { Writes text.old (polyline (seen_frame frame.now) numbers.now) text.new result }
 {
     match numbers {
         [] => Ok(()),
@@ -157,7 +157,8 @@ fn put_circle(
     text: &mut RxText,
 ) -> Result<(), PlotError>
     requires { place < frame.now.count }
-    ensures { Writes text.old (circle (x_of (seen frame.now) place) (y_of (seen frame.now) number)) text.new result }
+    ensures { Writes text.old
+        (circle (x_of (seen_frame frame.now) place) (y_of (seen_frame frame.now) number)) text.new result }
 {
     let circle = circle(alloc, frame.x(place), frame.y(number))?;
     put(text, circle.as_str())
@@ -170,7 +171,7 @@ fn put_circles(
     text: &mut RxText,
 ) -> Result<(), PlotError>
     requires { frame.now.count ≡ length numbers.now }
-    ensures { Writes text.old (circles_from (seen frame.now) 0 numbers.now) text.new result }
+    ensures { Writes text.old (circles_from (seen_frame frame.now) 0 numbers.now) text.new result }
 {
     for (place, number) in numbers.iter().enumerate() {
         put_circle(alloc, frame, place, *number, text)?;
@@ -187,7 +188,7 @@ pub fn put_marks(
     text: &mut RxText,
 ) -> Result<(), PlotError>
     requires { frame.now.count ≡ length numbers.now }
-    ensures { Writes text.old (marks plot (seen frame.now) numbers.now) text.new result }
+    ensures { Writes text.old (marks plot (seen_frame frame.now) numbers.now) text.new result }
 {
     match plot {
         Plot::Bars => put_bars(alloc, frame, numbers, text),

@@ -1,14 +1,15 @@
 //! The whole text.
 
 ghost use Rattle.std.specs.Prelude.{◌≡◌, ◌≤◌, IfOk, MatchOption, None, Some, string_bytes};
-ghost use Rattle.rx_value.specs.Plot.{opening, picture, limited, side_of, of_numbers};
-ghost use Rattle.svg_plot.specs.Answers.{Gives};
+ghost use Rattle.rx_value.specs.Plot.{opening, plot_text, limited_text, side_of, text_of_numbers};
+ghost use Rattle.rx_value.specs.Results.{GivesOrMemory};
+ghost use Rattle.svg_plot.specs.inner.Answers.{refusal};
 
 use crate::error::PlotError;
 use crate::frame::Frame;
 use crate::marks::put_marks;
 use crate::title::{put, put_heading};
-use rx_value::{Failure, Memory, Plot, RxText};
+use rx_value::{Failure, Memory, PLOT_SIDE_MAX, PLOT_SIDE_MIN, Plot, RxText};
 use std::alloc::{AllocError, Global};
 
 #[tactic(auto, unfolding(rx_value::specs::Plot::opening))]
@@ -20,14 +21,15 @@ fn opening(alloc: Global, width: u32, height: u32) -> Result<String, AllocError>
     )
 }
 
-fn opened(alloc: Global, width: u32, height: u32) -> Result<RxText, Memory>
+/// The text as it begins.
+fn opening_text(alloc: Global, width: u32, height: u32) -> Result<RxText, Memory>
     ensures { IfOk result (λ text. text ≡ opening width height) }
 {
     let tag = opening(alloc, width, height)?;
     RxText::from_str(alloc, tag.as_str())
 }
 
-fn picture(
+fn plot_text(
     alloc: Global,
     plot: Plot,
     width: u32,
@@ -35,14 +37,15 @@ fn picture(
     title: &str,
     numbers: &[i64],
 ) -> Result<RxText, PlotError>
-    requires least_width { 64 ≤ width }
-    requires greatest_width { width ≤ 4096 }
-    requires least_height { 64 ≤ height }
-    requires greatest_height { height ≤ 4096 }
-    ensures { Gives result (limited (picture plot width height title.now numbers.now)) }
+    requires least_width { PLOT_SIDE_MIN ≤ width }
+    requires greatest_width { width ≤ PLOT_SIDE_MAX }
+    requires least_height { PLOT_SIDE_MIN ≤ height }
+    requires greatest_height { height ≤ PLOT_SIDE_MAX }
+    ensures { GivesOrMemory (λ text. text) refusal result
+        (limited_text (plot_text plot width height title.now numbers.now)) }
 {
     let frame = Frame::new(width, height, numbers);
-    let mut text = opened(alloc, width, height)?;
+    let mut text = opening_text(alloc, width, height)?;
     put_heading(title, &mut text)?;
     put_marks(alloc, plot, &frame, numbers, &mut text)?;
     put(&mut text, "</svg>")?;
@@ -51,9 +54,10 @@ fn picture(
 
 /// A side in pixels.
 fn side(number: i64) -> Option<u32>
-    ensures { MatchOption result (side_of number ≡ None) (λ side. (side_of number ≡ Some side) × (64 ≤ side) × (side ≤ 4096)) }
+    ensures { MatchOption result (side_of number ≡ None)
+        (λ side. (side_of number ≡ Some side) × (PLOT_SIDE_MIN ≤ side) × (side ≤ PLOT_SIDE_MAX)) }
 {
-    if (64..=4096).contains(&number) {
+    if (i64::from(PLOT_SIDE_MIN)..=i64::from(PLOT_SIDE_MAX)).contains(&number) {
         Some(number as u32)
     } else {
         None
@@ -69,10 +73,11 @@ pub fn sized(
     title: &str,
     numbers: &[i64],
 ) -> Result<RxText, PlotError>
-    ensures { Gives result (of_numbers plot width height title.now (Some numbers.now)) }
+    ensures { GivesOrMemory (λ text. text) refusal result
+        (text_of_numbers plot width height title.now (Some numbers.now)) }
 {
     match (side(width), side(height)) {
-        (Some(width), Some(height)) => picture(alloc, plot, width, height, title, numbers),
+        (Some(width), Some(height)) => plot_text(alloc, plot, width, height, title, numbers),
         _ => Err(PlotError::Failed(Failure::PlotSizeOutOfRange)),
     }
 }

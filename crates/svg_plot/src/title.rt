@@ -4,19 +4,16 @@ ghost use Rattle.std.specs.Prelude.{◌≡◌, ◌++◌, ◌≤◌, length, OnOk
 ghost use Rattle.std.specs.List.{flat_map};
 ghost use Rattle.std.specs.Str.{chars};
 ghost use Rattle.rx_value.specs.Plot.{escaped, heading};
-ghost use Rattle.svg_plot.specs.Answers.{Stops, Writes};
+ghost use Rattle.svg_plot.specs.inner.Answers.{IsTooLongOrMemory, Writes};
 
 use crate::error::PlotError;
-use rx_value::{Failure, Memory, RxText};
-
-/// The most bytes of a text.
-const LONGEST: usize = 65536;
+use rx_value::{Failure, Memory, RxText, TEXT_LIMIT};
 
 /// Refuses a text that has grown too long.
 fn limit(text: &RxText) -> Result<(), PlotError>
-    ensures { MatchResult result (λ _. length text.now ≤ 65536) (Stops text.now) }
+    ensures { MatchResult result (λ _. length text.now ≤ TEXT_LIMIT) (IsTooLongOrMemory text.now) }
 {
-    if text.len() > LONGEST {
+    if text.len() > TEXT_LIMIT {
         return Err(PlotError::Failed(Failure::TextTooLong));
     }
     Ok(())
@@ -25,7 +22,7 @@ fn limit(text: &RxText) -> Result<(), PlotError>
 /// Puts a piece at the end of a text, which is to stay within its limit.
 pub fn put(text: &mut RxText, piece: &str) -> Result<(), PlotError>
     ensures written { Writes text.old piece.now text.new result }
-    ensures fits { OnOk result (length text.new ≤ 65536) }
+    ensures short { OnOk result (length text.new ≤ TEXT_LIMIT) }
 {
     text.push_str(piece)?;
     limit(text)

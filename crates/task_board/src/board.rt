@@ -1,7 +1,8 @@
 ghost use Rattle.std.specs.Prelude.{◌≡◌, ◌<◌, IfOk, OnOk, OnErr, Some, None, ◌≤◌, ◌≢◌, [], length, slice_set, replicate};
-ghost use Rattle.task_board.specs.Board.{idle, board_at, invoked, ended, running_number};
+ghost use Rattle.task_board.specs.Board.{idle, board_at, invocation_result, end_result, running_number};
 
 use crate::job::{Ended, Invoked};
+use crate::limits::QUEUE_LIMIT;
 use crate::state::TaskState;
 use rx_value::{Memory, Values};
 use std::alloc::Global;
@@ -41,11 +42,12 @@ impl Board {
     /// wait, unless 1,000 do. Without memory the board stays as it was, and the arguments are lost.
     pub fn invoke(&mut self, alloc: Global, task: u32, args: Values) -> Result<Invoked, Memory>
         requires { task < length self.old }
-        ensures answer { IfOk result (λ answer. answer ≡ (invoked task args (board_at self.old task)).answer) }
-        ensures ok { OnOk result (self.new ≡ slice_set self.old task (invoked task args (board_at self.old task)).board) }
+        ensures answer { IfOk result (λ answer. answer ≡ (invocation_result task args (board_at self.old task)).answer) }
+        ensures ok { OnOk result
+            (self.new ≡ slice_set self.old task (invocation_result task args (board_at self.old task)).board) }
         ensures err { OnErr result (self.new ≡ self.old) }
-        ensures memory { OnErr result (length (board_at self.old task).queued < 1000) }
-        ensures few { length (board_at self.old task).queued ≤ 1000 }
+        ensures memory { OnErr result (length (board_at self.old task).queued < QUEUE_LIMIT) }
+        ensures few { length (board_at self.old task).queued ≤ QUEUE_LIMIT }
         ensures quiet { (board_at self.old task).running ≡ None → (board_at self.old task).queued ≡ [] }
     {
         self.tasks[task as usize].invoke(alloc, task, args)
@@ -56,10 +58,12 @@ impl Board {
     /// the invocation is still running.
     pub fn end(&mut self, alloc: Global, task: u32, number: u64) -> Result<Ended, Memory>
         requires { task < length self.old }
-        ensures answer { IfOk result (λ answer. answer ≡ (ended task number (board_at self.old task)).answer) }
-        ensures ok { OnOk result (self.new ≡ slice_set self.old task (ended task number (board_at self.old task)).board) }
+        ensures answer { IfOk result (λ answer. answer ≡ (end_result task number (board_at self.old task)).answer) }
+        ensures ok { OnOk result
+            (self.new ≡ slice_set self.old task (end_result task number (board_at self.old task)).board) }
         ensures err { OnErr result (self.new ≡ self.old) }
-        ensures memory { OnErr result ((running_number (board_at self.old task) ≡ Some number) × ((board_at self.old task).queued ≢ [])) }
+        ensures memory { OnErr result
+            ((running_number (board_at self.old task) ≡ Some number) × ((board_at self.old task).queued ≢ [])) }
     {
         self.tasks[task as usize].end(alloc, task, number)
     }

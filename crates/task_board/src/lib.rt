@@ -7,9 +7,9 @@
 
 mod board;
 mod job;
+mod limits;
 mod state;
-#[cfg(test)]
-mod tests;
 
 pub use board::Board;
 pub use job::{Ended, Invocation, Invoked, Job};
+pub use limits::QUEUE_LIMIT;

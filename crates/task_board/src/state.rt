@@ -1,7 +1,8 @@
 ghost use Rattle.std.specs.Prelude.{◌≡◌, IfOk, OnOk, OnErr, Some, None, IsSome, ◌<◌, ◌≤◌, length, ◌≢◌, ◌+◌, []};
-ghost use Rattle.task_board.specs.Board.{idle, next_job, with_next, queued, invoked, next_of, ended, running_number};
+ghost use Rattle.task_board.specs.Board.{idle, next_job, with_next, queue_result, invocation_result, next_result, end_result, running_number};
 
 use crate::job::{Ended, Invocation, Invoked, Job};
+use crate::limits::QUEUE_LIMIT;
 use rx_value::{Memory, Values};
 use std::alloc::Global;
 use std::collections::VecDeque;
@@ -22,15 +23,12 @@ impl Model for TaskState {
 
     ghost Value = { TaskBoard };
 
-    ghost use Rattle.task_board.specs.Kept.{IsKept};
+    ghost use Rattle.task_board.specs.inner.Kept.{IsKept};
 
     ghost view = { λ a. record { last_number = a.last_number; running = a.running; queued = a.queued.items } };
 
     ghost invariant = { IsKept };
 }
-
-/// The most invocations of a task that may wait.
-const QUEUE: usize = 1_000;
 
 impl TaskState {
     pub fn new(alloc: Global) -> TaskState
@@ -77,12 +75,12 @@ impl TaskState {
 
     fn enqueue(&mut self, args: Values) -> Result<Invoked, Memory>
         requires { IsSome self.old.running }
-        ensures answer { IfOk result (λ answer. answer ≡ (queued args self.old).answer) }
-        ensures ok { OnOk result (self.new ≡ (queued args self.old).board) }
+        ensures answer { IfOk result (λ answer. answer ≡ (queue_result args self.old).answer) }
+        ensures ok { OnOk result (self.new ≡ (queue_result args self.old).board) }
         ensures err { OnErr result (self.new ≡ self.old) }
-        ensures memory { OnErr result (length self.old.queued < 1000) }
+        ensures memory { OnErr result (length self.old.queued < QUEUE_LIMIT) }
     {
-        if self.queued.len() >= QUEUE {
+        if self.queued.len() >= QUEUE_LIMIT {
             return Ok(Invoked::QueueFull);
         }
         match self.queued.push_back(args) {
@@ -92,11 +90,11 @@ impl TaskState {
     }
 
     pub fn invoke(&mut self, alloc: Global, task: u32, args: Values) -> Result<Invoked, Memory>
-        ensures answer { IfOk result (λ answer. answer ≡ (invoked task args self.old).answer) }
-        ensures ok { OnOk result (self.new ≡ (invoked task args self.old).board) }
+        ensures answer { IfOk result (λ answer. answer ≡ (invocation_result task args self.old).answer) }
+        ensures ok { OnOk result (self.new ≡ (invocation_result task args self.old).board) }
         ensures err { OnErr result (self.new ≡ self.old) }
-        ensures memory { OnErr result (length self.old.queued < 1000) }
-        ensures few { length self.old.queued ≤ 1000 }
+        ensures memory { OnErr result (length self.old.queued < QUEUE_LIMIT) }
+        ensures few { length self.old.queued ≤ QUEUE_LIMIT }
         ensures quiet { self.old.running ≡ None → self.old.queued ≡ [] }
     {
         if self.running.is_some() {
@@ -107,8 +105,8 @@ impl TaskState {
     }
 
     fn start_next(&mut self, alloc: Global, task: u32) -> Result<Ended, Memory>
-        ensures answer { IfOk result (λ answer. answer ≡ (next_of self.old.queued task self.old).answer) }
-        ensures ok { OnOk result (self.new ≡ (next_of self.old.queued task self.old).board) }
+        ensures answer { IfOk result (λ answer. answer ≡ (next_result self.old.queued task self.old).answer) }
+        ensures ok { OnOk result (self.new ≡ (next_result self.old.queued task self.old).board) }
         ensures err { OnErr result (self.new ≡ self.old) }
         ensures memory { OnErr result (self.old.queued ≢ []) }
     {
@@ -126,8 +124,8 @@ impl TaskState {
     }
 
     pub fn end(&mut self, alloc: Global, task: u32, number: u64) -> Result<Ended, Memory>
-        ensures answer { IfOk result (λ answer. answer ≡ (ended task number self.old).answer) }
-        ensures ok { OnOk result (self.new ≡ (ended task number self.old).board) }
+        ensures answer { IfOk result (λ answer. answer ≡ (end_result task number self.old).answer) }
+        ensures ok { OnOk result (self.new ≡ (end_result task number self.old).board) }
         ensures err { OnErr result (self.new ≡ self.old) }
         ensures memory { OnErr result ((running_number self.old ≡ Some number) × (self.old.queued ≢ [])) }
     {

@@ -9,7 +9,7 @@ use Rattle.rx_value.specs.Plot.{y_of, edge_of, x_of, rect, pair, circle, escaped
 use Rattle.serde_json.proofs.OnLiterals.{serde_json_on_literals}
 use Rattle.app_tokens.specs.Scan.{word_piece, number_piece, text_from, text_piece, symbol_piece, piece_of, tokens_from, tokens_of}
 use Rattle.app_tokens.specs.Symbol.{symbol_of}
-use Rattle.app_tokens.specs.Text.{pair_of}
+use Rattle.app_tokens.specs.inner.Text.{pair_of}
 use Rattle.app_tokens.specs.Word.{word_of}
 use Rattle.app_reader.specs.Constants.{signed_at, further_number_at, numbers_at, optional_numbers_at, list_at, constant_at, priority_at, limit_at, budget_at}
 use Rattle.app_reader.specs.Items.{flag_at, flags_at, cache_at, keys_at, further_name_at, names_at, optional_names_at, parameters_at, start_at, input_form_at, value_form_at, task_form_at, reactive_form_at, event_form_at, output_at, text_form_at, plot_form_at, observe_form_at, on_form_at, named_item_at, worded_item_at, item_at, further_item_at, items_at, read_at}

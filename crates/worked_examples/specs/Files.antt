@@ -9,7 +9,7 @@ use Rattle.app_check.specs.Load.{loaded}
 use Rattle.session_model.specs.declared.event.Event.{Event}
 use Rattle.session_model.specs.Alone.{Ending, ending, bodies_run}
 use Rattle.session_model.specs.Lines.{lines_of}
-use Rattle.session_model.specs.Transcript.{ReplayEnd, Replayed, replayed}
+use Rattle.session_model.specs.Transcript.{ReplayEnd, ReplayResult, replayed}
 use Rattle.session_model.specs.TakenLines.{replayed_today}
 
 -- these lines, each with its line feed
@@ -30,7 +30,7 @@ pub record Written : Type 0 where
   pub output : List ℕ
   pub end : ReplayEnd
 
-abbrev pub written : Replayed → Written
+abbrev pub written : ReplayResult → Written
 written r = record { output = r.output; end = r.end }
 
 -- the replay of a transcript
@@ -46,7 +46,7 @@ pub record Sizes : Type 0 where
   pub line_count : ℕ
   pub byte_count : ℕ
 
-abbrev pub sizes_of : Replayed → Sizes
+abbrev pub sizes_of : ReplayResult → Sizes
 sizes_of r = record { line_count = length (lines_of r.output); byte_count = length r.output }
 
 abbrev pub file_sizes : List ℕ → List ℕ → Option Sizes
@@ -68,7 +68,9 @@ item_count file = of_file (λ app. length app.items) file
 abbrev pub outcomes_from : Shape → ℕ → List Node → List (List ℕ × Outcome)
 outcomes_from app n [] = []
 outcomes_from app n (i ∷ more) =
-    if is_output i then (name_of i, first_outcome app (starting_values app.items) n) ∷ outcomes_from app (suc n) more else outcomes_from app (suc n) more
+    if is_output i
+    then (name_of i, first_outcome app (starting_values app.items) n) ∷ outcomes_from app (suc n) more
+    else outcomes_from app (suc n) more
 
 -- by name, in the order of the text
 abbrev pub first_outcomes : Shape → List (List ℕ × Outcome)

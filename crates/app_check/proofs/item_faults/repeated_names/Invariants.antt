@@ -1,6 +1,6 @@
 use Rattle.std.proofs.Common.{◌≡◌, drop}
 use Rattle.app_tree.specs.Faults.{first_with}
-use Rattle.app_check.specs.Bound.{refused_names}
+use Rattle.app_check.specs.inner.Bound.{refused_names}
 use Rattle.app_check.proofs.item_faults.repeated_names.Given as goal
 
 abbrev pub invariant-loop-name : goal.invariant-loop-name

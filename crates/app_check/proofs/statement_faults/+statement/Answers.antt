@@ -2,7 +2,7 @@ use Rattle.std.proofs.Common.{◌≡◌, rules}
 use Rattle.app_tree.specs.declared.draft_item.DraftStatement.TheFolds.{the_lemmas}
 use Rattle.app_tree.specs.DraftTree as draft
 use Rattle.app_tree.specs.DraftView.{draft_tree_of, draft_act_of, draft_acts_of}
-use Rattle.app_check.specs.Spots.{spot_of}
+use Rattle.app_check.specs.inner.Spots.{spot_of}
 use Rattle.app_check.proofs.Walked.{acts_step, walked_branch, walked_branches}
 use Rattle.app_check.proofs.statement_faults.+statement.Goals as goal
 

@@ -1,7 +1,7 @@
 use Rattle.std.proofs.Common.{◌≡◌, drop}
 use Rattle.app_tree.specs.DraftView.{draft_acts_of}
 use Rattle.app_tree.specs.Faults.{first_with, acts_faults}
-use Rattle.app_check.specs.Spots.{spot_of}
+use Rattle.app_check.specs.inner.Spots.{spot_of}
 use Rattle.app_check.proofs.statement_faults.+statement.Given as goal
 
 abbrev pub invariant-block-statements : goal.invariant-block-statements

@@ -1,4 +1,4 @@
-use Rattle.app_check.specs.Spots.{spot_of}
+use Rattle.app_check.specs.inner.Spots.{spot_of}
 use Rattle.app_check.proofs.Walked.{writes_step}
 use Rattle.app_check.proofs.statement_faults.writes.Goals as goal
 

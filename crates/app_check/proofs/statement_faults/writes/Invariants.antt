@@ -1,7 +1,7 @@
 use Rattle.std.proofs.Common.{◌≡◌, drop, map}
 use Rattle.app_tree.specs.DraftView.{write_of}
 use Rattle.app_tree.specs.Faults.{first_with, writes_faults}
-use Rattle.app_check.specs.Spots.{spot_of}
+use Rattle.app_check.specs.inner.Spots.{spot_of}
 use Rattle.app_check.proofs.statement_faults.writes.Given as goal
 
 abbrev pub invariant-writes : goal.invariant-writes

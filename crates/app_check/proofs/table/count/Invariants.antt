@@ -1,6 +1,7 @@
 use Rattle.std.proofs.Common.{◌≡◌, ◌+◌, ◌≤◌, drop, map}
 use Rattle.app_tree.specs.Declarations.{count_of}
-use Rattle.app_check.specs.Tables.{sorts_of, declared_of}
+use Rattle.app_tree.specs.Sorts.{sorts_of}
+use Rattle.app_check.specs.inner.Tables.{declared_of}
 use Rattle.app_check.proofs.table.count.Given as goal
 
 abbrev pub invariant-loop-entry : goal.invariant-loop-entry

@@ -2,7 +2,7 @@ use Rattle.std.proofs.Common.{◌<◌, length}
 use Rattle.app_tokens.specs.declared.symbol.Symbol.TheVariants as symbol
 use Rattle.app_reader.specs.State.{is_symbol_next}
 use Rattle.app_reader.specs.Constants.{further_number_at, numbers_at}
-use Rattle.app_reader.specs.Loop.{Leads}
+use Rattle.app_reader.specs.inner.Loop.{Leads}
 use Rattle.app_reader.proofs.constants.numbers.Given as goal
 
 abbrev pub invariant-numbers : goal.invariant-numbers

@@ -1,8 +1,8 @@
 use Rattle.std.proofs.Common.{length}
 use Rattle.app_reader.specs.State.{is_more}
 use Rattle.app_reader.specs.Items.{further_item_at, items_at}
-use Rattle.app_reader.specs.View.{items_of}
-use Rattle.app_reader.specs.Loop.{Leads}
+use Rattle.app_reader.specs.inner.View.{items_of}
+use Rattle.app_reader.specs.inner.Loop.{Leads}
 use Rattle.app_reader.proofs.items.items.Given as goal
 
 abbrev pub invariant-items : goal.invariant-items

@@ -1,7 +1,7 @@
 use Rattle.std.proofs.Common.{◌*◌, ◌+◌, ◌≤◌, length}
 use Rattle.app_reader.specs.Statements.{is_statement_next, further_statement_at, statements_at, block_at}
-use Rattle.app_reader.specs.View.{acts_of}
-use Rattle.app_reader.specs.Loop.{Leads}
+use Rattle.app_reader.specs.inner.View.{acts_of}
+use Rattle.app_reader.specs.inner.Loop.{Leads}
 use Rattle.app_reader.proofs.statements.+block.Given as goal
 
 abbrev pub decreases-block : goal.decreases-block

@@ -1,7 +1,7 @@
 use Rattle.std.proofs.Common.{◌≤◌, length}
 use Rattle.app_reader.specs.Statements.{is_write_next, further_write_at, writes_at}
-use Rattle.app_reader.specs.View.{deeds_of}
-use Rattle.app_reader.specs.Loop.{Leads}
+use Rattle.app_reader.specs.inner.View.{deeds_of}
+use Rattle.app_reader.specs.inner.Loop.{Leads}
 use Rattle.app_reader.proofs.statements.writes.Given as goal
 
 abbrev pub invariant-writes : goal.invariant-writes

@@ -6,8 +6,8 @@ use Rattle.app_reader.specs.declared.operators.Rank.{Rank}
 use Rattle.app_reader.specs.declared.operators.Rank.TheVariants as rank
 use Rattle.app_reader.specs.State.{is_symbol_next}
 use Rattle.app_reader.specs.Terms.{term_at, unary_at, unary_in, is_operator_next, operand_at, right_at, chain_at, further_at, listed_at, counted_at}
-use Rattle.app_reader.specs.View.{trees_of}
-use Rattle.app_reader.specs.Loop.{Leads}
+use Rattle.app_reader.specs.inner.View.{trees_of}
+use Rattle.app_reader.specs.inner.Loop.{Leads}
 use Rattle.app_reader.proofs.terms.+term.Given as goal
 
 -- how many functions stand between a level and the next
@@ -18,95 +18,101 @@ of_rank rank.Comparison = 2
 of_rank rank.And = 3
 of_rank rank.Or = 4
 
+abbrev pub decreases-inner : goal.decreases-inner
+decreases-inner l = l.levels * 50 + 1
+
 abbrev pub decreases-term : goal.decreases-term
-decreases-term l = l.levels * 40
+decreases-term l = l.levels * 50
 
 abbrev pub decreases-unary : goal.decreases-unary
-decreases-unary l = l.levels * 40
+decreases-unary l = l.levels * 50
 
 abbrev pub decreases-term_inside : goal.decreases-term_inside
-decreases-term_inside l = l.below * 40 + 39
+decreases-term_inside l = l.below * 50 + 49
 
 abbrev pub decreases-choice : goal.decreases-choice
-decreases-choice l = l.below * 40 + 3
+decreases-choice l = l.below * 50 + 4
 
 abbrev pub decreases-ways : goal.decreases-ways
-decreases-ways l = l.below * 40 + 1
+decreases-ways l = l.below * 50 + 2
 
 abbrev pub decreases-operation : goal.decreases-operation
-decreases-operation l = l.below * 40 + 38
+decreases-operation l = l.below * 50 + 48
 
 abbrev pub decreases-level : goal.decreases-level
-decreases-level l = l.below * 40 + 13 + of_rank l.rank * 5
+decreases-level l = l.below * 50 + 14 + of_rank l.rank * 6
 
 abbrev pub decreases-chain : goal.decreases-chain
-decreases-chain l = l.below * 40 + 12 + of_rank l.rank * 5
+decreases-chain l = l.below * 50 + 13 + of_rank l.rank * 6
 
 abbrev pub decreases-once : goal.decreases-once
-decreases-once l = l.below * 40 + 12 + of_rank l.rank * 5
+decreases-once l = l.below * 50 + 13 + of_rank l.rank * 6
 
 abbrev pub decreases-right : goal.decreases-right
-decreases-right l = l.below * 40 + 11 + of_rank l.rank * 5
+decreases-right l = l.below * 50 + 12 + of_rank l.rank * 6
+
+abbrev pub decreases-inner_operand : goal.decreases-inner_operand
+decreases-inner_operand l = l.below * 50 + 11 + of_rank l.rank * 6
 
 abbrev pub decreases-operand : goal.decreases-operand
-decreases-operand l = l.below * 40 + 10 + of_rank l.rank * 5
+decreases-operand l = l.below * 50 + 10 + of_rank l.rank * 6
 
 abbrev pub decreases-unary_inside : goal.decreases-unary_inside
-decreases-unary_inside l = l.below * 40 + 9
+decreases-unary_inside l = l.below * 50 + 9
 
 abbrev pub decreases-atom : goal.decreases-atom
-decreases-atom l = l.below * 40 + 8
+decreases-atom l = l.below * 50 + 8
 
 abbrev pub decreases-worded : goal.decreases-worded
-decreases-worded l = l.below * 40 + 7
+decreases-worded l = l.below * 50 + 7
 
 abbrev pub decreases-special : goal.decreases-special
-decreases-special l = l.below * 40 + 6
+decreases-special l = l.below * 50 + 6
 
 abbrev pub decreases-bracketed : goal.decreases-bracketed
-decreases-bracketed l = l.below * 40 + 1
+decreases-bracketed l = l.below * 50 + 2
 
 abbrev pub decreases-group : goal.decreases-group
-decreases-group l = l.below * 40 + 2
+decreases-group l = l.below * 50 + 3
 
 abbrev pub decreases-isolate : goal.decreases-isolate
-decreases-isolate l = l.below * 40 + 2
+decreases-isolate l = l.below * 50 + 3
 
 abbrev pub decreases-stop : goal.decreases-stop
-decreases-stop l = l.below * 40 + 2
+decreases-stop l = l.below * 50 + 3
 
 abbrev pub decreases-require : goal.decreases-require
-decreases-require l = l.below * 40 + 2
+decreases-require l = l.below * 50 + 3
 
 abbrev pub decreases-fold_start : goal.decreases-fold_start
-decreases-fold_start l = l.below * 40 + 2
+decreases-fold_start l = l.below * 50 + 3
 
 abbrev pub decreases-fold : goal.decreases-fold
-decreases-fold l = l.below * 40 + 3
+decreases-fold l = l.below * 50 + 4
 
 abbrev pub decreases-part : goal.decreases-part
-decreases-part l = l.below * 40 + 1
+decreases-part l = l.below * 50 + 2
 
 abbrev pub decreases-last_part : goal.decreases-last_part
-decreases-last_part l = l.below * 40 + 1
+decreases-last_part l = l.below * 50 + 2
 
 abbrev pub decreases-call : goal.decreases-call
-decreases-call l = l.below * 40 + 6
+decreases-call l = l.below * 50 + 6
 
 abbrev pub decreases-arguments : goal.decreases-arguments
-decreases-arguments l = l.below * 40 + 5
+decreases-arguments l = l.below * 50 + 5
 
 abbrev pub decreases-optional : goal.decreases-optional
-decreases-optional l = l.below * 40 + 4
+decreases-optional l = l.below * 50 + 4
 
 abbrev pub decreases-counted : goal.decreases-counted
-decreases-counted l = l.below * 40 + 3
+decreases-counted l = l.below * 50 + 3
 
 abbrev pub decreases-listed : goal.decreases-listed
-decreases-listed l = l.below * 40 + 3
+decreases-listed l = l.below * 50 + 3
 
 abbrev pub decreases-further : goal.decreases-further
-decreases-further l = l.below * 40 + 1
+decreases-further l = l.below * 50 + 2
 
 abbrev pub decreases-chain-chain : goal.decreases-chain-chain
 decreases-chain-chain l = length l.reader.tokens

@@ -11,7 +11,8 @@ invariant-loop-rest l =
     record {
       utf8 : shadow (Utf8 l.rest);
       within : length l.rest ≤ length l.text;
-      said : joined l.tokens.items (tokens_from l.whole 0 (length l.text - length l.rest) l.rest) ≡ tokens_from l.whole 0 0 l.text;
+      said : joined l.tokens.items (tokens_from l.whole 0 (length l.text - length l.rest) l.rest)
+          ≡ tokens_from l.whole 0 0 l.text;
     }
 
 abbrev pub decreases-loop-rest : goal.decreases-loop-rest

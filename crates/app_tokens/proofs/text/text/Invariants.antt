@@ -10,7 +10,8 @@ invariant-loop-value l =
     record {
       utf8 : shadow (Utf8 l.rest);
       within : length l.rest ≤ length l.inside;
-      said : text_from l.whole l.quote (l.quote + 1 + (length l.inside - length l.rest)) l.value l.rest ≡ text_from l.whole l.quote (l.quote + 1) [] l.inside;
+      said : text_from l.whole l.quote (l.quote + 1 + (length l.inside - length l.rest)) l.value l.rest
+          ≡ text_from l.whole l.quote (l.quote + 1) [] l.inside;
     }
 
 abbrev pub decreases-loop-value : goal.decreases-loop-value

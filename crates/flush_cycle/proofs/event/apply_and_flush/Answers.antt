@@ -2,9 +2,9 @@ use Rattle.std.proofs.Common.{List, ◌∙◌, ap, sym, subst, IfOk}
 use Rattle.rx_value.specs.declared.source.SourceValue.{SourceValue}
 use Rattle.app_tree.specs.View.{shape_of}
 use Rattle.session_model.specs.Apply.{apply_pairs}
-use Rattle.session_model.specs.Flush.{Flushed, flush}
+use Rattle.session_model.specs.Flush.{FlushResult, flush}
 use Rattle.flush_cycle.specs.State.{state_of}
-use Rattle.flush_cycle.specs.Passed.{Passes}
+use Rattle.flush_cycle.specs.inner.Passed.{Passes}
 use Rattle.flush_cycle.proofs.Thawing.{thaw_same}
 use Rattle.flush_cycle.proofs.event.apply_and_flush.Goals as goal
 
@@ -16,6 +16,6 @@ returns-clause-passes c =
     let readers = c.apply_pairs.new.readers.items in
     let after = c.flush.new.readers.items in
     let from = ap (flush app) (c.in_ok-apply_pairs.ensures.applied ∙ ap (apply_pairs app c.args.pairs.now) (sym (thaw_same old c.requires.thawed))) in
-    let over_flushed : Flushed → Type 0 = λ f. IfOk c.flush.result (λ p. Passes app f (state_of values after) p.outputs p.spent) in
+    let over_flushed : FlushResult → Type 0 = λ f. IfOk c.flush.result (λ p. Passes app f (state_of values after) p.outputs p.spent) in
     let over_values : List SourceValue → Type 0 = λ vs. IfOk c.flush.result (λ p. Passes app (flush app (state_of vs readers)) (state_of vs after) p.outputs p.spent) in
     subst over_flushed from (subst over_values c.as_slice.ensures.value c.flush.ensures)

@@ -1,4 +1,4 @@
-use Rattle.flush_cycle.specs.Targets.{is_declared}
+use Rattle.flush_cycle.specs.inner.Targets.{is_declared}
 use Rattle.flush_cycle.proofs.Counted.{Counted}
 use Rattle.flush_cycle.proofs.sizes.declared_count.Given as goal
 

@@ -2,7 +2,7 @@ use Rattle.std.proofs.Common.{rules, ◌≡◌, ◌∙◌, ap, sym, nat_eq}
 use Rattle.serde_json.specs.Data.{object}
 use Rattle.serde_json.specs.View.{view, members_view}
 use Rattle.serde_json.specs.declared.value.Value.{the_lemmas}
-use Rattle.flush_cycle.specs.TakenJson.{has_two_members}
+use Rattle.flush_cycle.specs.inner.TakenJson.{has_two_members}
 use Rattle.flush_cycle.proofs.Members.{member_count-view}
 use Rattle.flush_cycle.proofs.taken.has_two_members.Goals as goal
 

@@ -2,7 +2,7 @@ use Rattle.std.proofs.Common.{◌+◌, ◌∙◌, sym, ap, subst, map, length, S
 use Rattle.std.proofs.lemmas.List.{length-map}
 use Rattle.app_tree.specs.View.{node_of}
 use Rattle.app_tree.specs.Numbering.{name_of}
-use Rattle.flush_cycle.specs.Passed.{IsPassed}
+use Rattle.flush_cycle.specs.inner.Passed.{IsPassed}
 use Rattle.flush_cycle.proofs.Building.{output_is, no_reader, built_at}
 use Rattle.flush_cycle.proofs.Passing.{node_at, passed_all, passed_other, passed_output}
 use Rattle.flush_cycle.proofs.waiting.next_waiting.Goals as goal

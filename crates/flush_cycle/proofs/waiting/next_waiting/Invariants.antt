@@ -1,6 +1,6 @@
 use Rattle.std.proofs.Common.{◌-◌, length, map}
 use Rattle.app_tree.specs.View.{node_of}
-use Rattle.flush_cycle.specs.Passed.{IsPassed}
+use Rattle.flush_cycle.specs.inner.Passed.{IsPassed}
 use Rattle.flush_cycle.proofs.waiting.next_waiting.Given as goal
 
 abbrev pub invariant-loop-place : goal.invariant-loop-place

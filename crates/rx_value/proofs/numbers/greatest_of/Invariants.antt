@@ -3,4 +3,5 @@ use Rattle.std.specs.Int.{int_max}
 use Rattle.rx_value.proofs.numbers.greatest_of.Given as goal
 
 abbrev pub invariant-loop-number : goal.invariant-loop-number
-invariant-loop-number l = fold int_max l.greatest (drop l.number-index l.later) ≡ fold int_max l.initial.greatest l.later
+invariant-loop-number l =
+    fold int_max l.greatest (drop l.number-index l.later) ≡ fold int_max l.initial.greatest l.later

@@ -3,4 +3,5 @@ use Rattle.std.specs.Int.{int_min}
 use Rattle.rx_value.proofs.numbers.least_of.Given as goal
 
 abbrev pub invariant-loop-number : goal.invariant-loop-number
-invariant-loop-number l = fold int_min l.least (drop l.number-index l.later) ≡ fold int_min l.initial.least l.later
+invariant-loop-number l =
+    fold int_min l.least (drop l.number-index l.later) ≡ fold int_min l.initial.least l.later

@@ -1,6 +1,6 @@
 use Rattle.std.proofs.Common.{◌∙◌, ap, sym, true, false}
 use Rattle.std.proofs.lemmas.Str.{is_utf8-from_IsUtf8}
-use Rattle.shiny_main.specs.Spoken.{spoken_in}
+use Rattle.shiny_main.specs.inner.Spoken.{spoken_in}
 use Rattle.shiny_main.proofs.SpokenLines.{is_not_utf8, spoken-by}
 use Rattle.shiny_main.proofs.line.said_by.Goals as goal
 

@@ -1,4 +1,5 @@
-use Rattle.std.proofs.Common.{◌-◌}
+use Rattle.std.proofs.Common.{suc, ◌-◌}
+use Rattle.session_model.specs.declared.limits.TheConstants.{TAKEN_LINE_LIMIT}
 use Rattle.app_tree.specs.View.{shape_of}
 use Rattle.shiny_main.proofs.Replays.{Replaying}
 use Rattle.shiny_main.proofs.transcript.replay_lines.Given as goal
@@ -9,4 +10,4 @@ invariant-lines g l =
     (g.S.Source.faults l.fn.input) (g.S.Source.faults l.input) (g.K.Sink.faults l.fn.out) (g.K.Sink.faults l.out)
 
 abbrev pub decreases-lines : goal.decreases-lines
-decreases-lines g l = 202 - l.lines.number
+decreases-lines g l = suc (suc TAKEN_LINE_LIMIT) - l.lines.number

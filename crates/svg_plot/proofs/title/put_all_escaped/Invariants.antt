@@ -6,4 +6,6 @@ use Rattle.svg_plot.proofs.title.put_all_escaped.Given as goal
 
 -- what was written and what is to come are the whole
 abbrev pub invariant-loop-character : goal.invariant-loop-character
-invariant-loop-character l = l.text ++ flat_map escaped (drop (length l.yielded) (chars l.title)) ≡ l.fn.text ++ flat_map escaped (chars l.title)
+invariant-loop-character l =
+    l.text ++ flat_map escaped (drop (length l.yielded) (chars l.title))
+    ≡ l.fn.text ++ flat_map escaped (chars l.title)

@@ -1,6 +1,6 @@
 use Rattle.app_tree.specs.Resolve.{text_of_name}
-use Rattle.app_check.specs.ByName.{by_name}
-use Rattle.app_check.specs.Bound.{refused_names}
+use Rattle.app_check.specs.inner.ByName.{by_name}
+use Rattle.app_check.specs.inner.Bound.{refused_names}
 use Rattle.app_check.proofs.Placed.{next_place, repeated_step}
 use Rattle.app_check.proofs.parameters.Parameters.new.Goals as goal
 

@@ -1,8 +1,8 @@
 use Rattle.std.proofs.Common.{◌≡◌, ℕ, List, [], ◌++◌, take, drop, map}
 use Rattle.app_tree.specs.Resolve.{text_of_name, innermost}
 use Rattle.app_tree.specs.Faults.{repeated_names}
-use Rattle.app_check.specs.ByName.{by_name}
-use Rattle.app_check.specs.Bound.{refused_names}
+use Rattle.app_check.specs.inner.ByName.{by_name}
+use Rattle.app_check.specs.inner.Bound.{refused_names}
 use Rattle.app_check.proofs.parameters.Parameters.new.Given as goal
 
 abbrev pub invariant-loop-place : goal.invariant-loop-place

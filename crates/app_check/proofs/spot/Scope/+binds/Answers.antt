@@ -1,7 +1,7 @@
 use Rattle.std.proofs.Common.{◌≡◌, rules}
 use Rattle.app_tree.specs.Resolve.{inner_scope}
 use Rattle.app_check.specs.declared.spot.Scope.TheFolds.{the_lemmas}
-use Rattle.app_check.specs.Spots.{variables_of}
+use Rattle.app_check.specs.inner.Spots.{variables_of}
 use Rattle.app_check.proofs.First.{bound_outside, bound_here}
 use Rattle.app_check.proofs.spot.Scope.+binds.Goals as goal
 

@@ -1,6 +1,6 @@
 use Rattle.std.proofs.Common.{◌≡◌, ◌∙◌, true, false, IfSome, refl, sym, ap, subst}
-use Rattle.shiny_main.specs.Pieces.{BeginsLonger}
-use Rattle.shiny_main.specs.Lines.{LinesState, coming, BeginsBad, NextGives, TellGives}
+use Rattle.shiny_main.specs.inner.Pieces.{BeginsLonger}
+use Rattle.shiny_main.specs.inner.Lines.{LinesState, coming, BeginsBad, NextGives, TellGives}
 use Rattle.shiny_main.proofs.LineReads.{next_told, next_ended, longer_is_bad}
 use Rattle.shiny_main.proofs.lines.Lines.next.Goals as goal
 

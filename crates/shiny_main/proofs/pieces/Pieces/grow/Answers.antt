@@ -1,5 +1,5 @@
 use Rattle.std.proofs.Common.{subst, Bool}
-use Rattle.shiny_main.specs.Pieces.{Moves}
+use Rattle.shiny_main.specs.inner.Pieces.{Moves}
 use Rattle.shiny_main.proofs.PieceSteps.{grows_to_feed, grows_by_all}
 use Rattle.shiny_main.proofs.pieces.Pieces.grow.Goals as goal
 

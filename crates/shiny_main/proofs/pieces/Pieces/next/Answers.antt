@@ -1,6 +1,6 @@
 use Rattle.std.proofs.Common.{subst, sym, ◌<◌, ◌≤◌, length, arith}
 use Rattle.std.specs.Io.KnownBytes.{prepend_known}
-use Rattle.shiny_main.specs.Pieces.{CutGives}
+use Rattle.shiny_main.specs.inner.Pieces.{CutGives}
 use Rattle.shiny_main.proofs.PieceSteps.{next_found, next_at_end, next_too_long, next_failed}
 use Rattle.shiny_main.proofs.pieces.Pieces.next.Goals as goal
 

@@ -1,8 +1,0 @@
--- What holds of every task.
-use Rattle.std.specs.Prelude.{◌≡◌, ◌≤◌, [], length, None}
-use Rattle.task_board.specs.declared.state.TaskState.TheInside.{Inside}
-
--- at most 1,000 wait, and where none runs, none waits
-pub record IsKept (a : Inside) : Type 0 where
-  pub few : length a.queued.items ≤ 1000
-  pub quiet : a.running ≡ None → a.queued.items ≡ []
