@@ -1,5 +1,5 @@
 -- How many terms there are.
-use Rattle.std.proofs.Common.{◌≡◌, ℕ, ◌≤◌, Bor, List, [], ◌∷◌, length, map, take, suc, refl, sym, ◌∙◌, ap, arith}
+use Rattle.std.proofs.Common.{◌≡◌, ℕ, ◌≤◌, Bor, List, [], ◌∷◌, length, map, take, suc, refl, sym, ap, arith}
 use Rattle.std.proofs.lemmas.List.{take-map, length-take, length-map}
 use Rattle.app_tree.specs.declared.draft_item.DraftItem.{DraftItem}
 use Rattle.app_tree.specs.Declarations.{declarations, declared_by}

@@ -1,10 +1,10 @@
 -- The first of several lists of refusals, and small facts on names.
 use Rattle.std.proofs.Common.{◌≡◌, ℕ, suc, Bool, true, false, not, ◌&&◌, ◌||◌, cond, List, [], ◌∷◌, ◌++◌, map, take, Option, Some, None, refl, sym, ◌∙◌, ap}
-use Rattle.std.specs.Prelude.{bytes_eq}
+use Rattle.std.specs.Prelude.{is_none, bytes_eq}
 use Rattle.std.proofs.lemmas.List.{take-map}
 use Rattle.app_tree.specs.declared.refusal.Refusal.{Refusal}
 use Rattle.app_tree.specs.Resolve.{innermost_from, innermost}
-use Rattle.app_tree.specs.Faults.{earlier, first_with, is_named_among, is_none, declared_name}
+use Rattle.app_tree.specs.Faults.{earlier, first_with, is_named_among, declared_name}
 use Rattle.app_check.specs.declared.table.Entry.{Entry}
 use Rattle.app_check.specs.inner.Tables.{declared_of}
 

@@ -61,9 +61,13 @@ record Wins (f best : Refusal) (rs : List Refusal) : Type 0 where
   near : AtOrBefore f best
   first : NonePrecedes rs f
 
+none_further : (r f : Refusal) (rs : List Refusal) → precedes r f ≡ false → NonePrecedes rs f → NonePrecedes (r ∷ rs) f
+none_further r f rs one rest s (inl same) = ap (λ x. precedes x f) same ∙ one
+none_further r f rs one rest s (inr further) = rest s further
+
 wins : (f best : Refusal) (rs : List Refusal) → first_with (Some best) rs ≡ Some f → Wins f best rs
 unfolding AtOrBefore
-wins f best [] e = record { one = inl (sym same); near = inl (sym same); first = tt }
+wins f best [] e = record { one = inl (sym same); near = inl (sym same); first = λ s one. absurd one }
   where
     same : best ≡ f
     same = cc
@@ -72,10 +76,10 @@ wins f best (r ∷ rs) e = decide (precedes r best) refl (λ x. wins f x rs) e
     decide : (b : Bool) → b ≡ precedes r best → ((x : Refusal) → first_with (Some x) rs ≡ Some f → Wins f x rs) → first_with (cond b (Some r) (Some best)) rs ≡ Some f → Wins f best (r ∷ rs)
     decide true b rest e =
         let w = rest r e in
-        record { one = inr w.one; near = through f r best w.near (sym b); first = (at_or_before f r w.near, w.first) }
+        record { one = inr w.one; near = through f r best w.near (sym b); first = none_further r f rs (at_or_before f r w.near) w.first }
     decide false b rest e =
         let w = rest best e in
-        record { one = further w.one; near = w.near; first = (behind f best r w.near (sym b), w.first) }
+        record { one = further w.one; near = w.near; first = none_further r f rs (behind f best r w.near (sym b)) w.first }
       where
         further : (f ≡ best) ⊎ IsOne f rs → (f ≡ best) ⊎ IsOne f (r ∷ rs)
         further (inl same) = inl same
@@ -88,7 +92,7 @@ first_is f [] e = absurd (none e)
     none e = cc
 first_is f (r ∷ rs) e =
     let w = wins f r rs e in
-    record { one = w.one; first = (at_or_before f r w.near, w.first) }
+    record { one = w.one; first = none_further r f rs (at_or_before f r w.near) w.first }
 
 refused_is : (found : Option Refusal) (app : Shape) (r : Refusal) → accepted_or found app ≡ Err r → found ≡ Some r
 refused_is None app r e = cc

@@ -11,3 +11,4 @@ pub mod Placed
 pub mod ReadNames
 pub mod LoadedNames
 pub mod Sizes
+pub mod LastChecks

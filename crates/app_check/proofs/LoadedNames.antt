@@ -18,9 +18,10 @@ use Rattle.app_reader.specs.Items.{read_at}
 use Rattle.app_reader.proofs.Cut.{cut_tokens_fit}
 use Rattle.app_reader.proofs.FilesSound.{read_is_spelled}
 use Rattle.app_check.specs.declared.error.LoadError.{LoadError}
-use Rattle.app_check.specs.Load.{or_refusal, checked_app, app_of_draft}
+use Rattle.app_check.specs.Load.{checked_app, app_of_draft}
 use Rattle.app_check.specs.Words.{has_words}
 use Rattle.app_check.proofs.Accepted.{none_found}
+use Rattle.app_check.proofs.LastChecks.{passes_others}
 use Rattle.app_check.proofs.ReadNames.{read_names}
 
 -- a draft that no check refuses is, but for its places, the draft in which its app is written
@@ -34,14 +35,9 @@ named_checked d app e = by (first_refusal d) refl e
     by (Some r) is e = absurd cc
 
 draft_has_words : (bytes : List ℕ) (s : Tokens) (d : DraftShape) (app : Shape) → tokens_of bytes ≡ Ok s → read_at s ≡ Ok d → checked_app d ≡ Ok app → has_words (named app) ≡ true
-draft_has_words bytes s d app cut is_read e = by (checked d) refl e
-  where
-    by : (r : Result Shape Refusal) → checked d ≡ r → or_refusal r ≡ Ok app → has_words (named app) ≡ true
-    by (Ok made) is e =
-        let same : made ≡ app = cc in
-        ap has_words (named_checked d app (is ∙ ap Ok same))
-        ∙ (let fit = cut_tokens_fit bytes s cut in read_names d s.tokens fit (read_is_spelled s d fit is_read).1)
-    by (Err r) is e = absurd cc
+draft_has_words bytes s d app cut is_read e =
+    ap has_words (named_checked d app (passes_others d app e))
+    ∙ (let fit = cut_tokens_fit bytes s cut in read_names d s.tokens fit (read_is_spelled s d fit is_read).1)
 
 read_has_words : (bytes : List ℕ) (s : Tokens) (app : Shape) → tokens_of bytes ≡ Ok s → app_of_draft (read_at s) ≡ Ok app → has_words (named app) ≡ true
 read_has_words bytes s app cut e = by (read_at s) refl e

@@ -1,13 +1,13 @@
 -- The places of variables by name, and the parameters of the name of an earlier one.
 use Rattle.std.proofs.Common.{◌≡◌, ℕ, suc, ◌+◌, ◌<◌, ◌≤◌, Bool, true, false, not, cond, Bor, List, [], ◌∷◌, ◌++◌, length, get_or, take, drop, map, Option, Some, None, is_some, refl, sym, subst, ◌∙◌, ap, add-one, add-zero, append_assoc, arith, bytes_eq}
 use Rattle.std.proofs.lemmas.List.{take_more, take_all, take-take, take-map, take-append-le, take-append-drop, length-take, length-map, map-append}
-use Rattle.std.specs.Prelude.{nat_le}
+use Rattle.std.specs.Prelude.{is_none, nat_le}
 use Rattle.std.proofs.lemmas.Bool.Decides.{nat_tests}
 use Rattle.app_tree.specs.declared.draft_term.Name.{Name}
 use Rattle.app_tree.specs.declared.refusal.Refusal.{Refusal}
 use Rattle.app_tree.specs.declared.refusal.Fault.TheVariants as fault
 use Rattle.app_tree.specs.Resolve.{text_of_name, innermost_from, innermost}
-use Rattle.app_tree.specs.Faults.{is_named_among, is_none, name_refused, where_fails, repeated_names}
+use Rattle.app_tree.specs.Faults.{is_named_among, name_refused, where_fails, repeated_names}
 use Rattle.app_check.specs.inner.Bound.{StandFirst, kept_parameters}
 use Rattle.app_check.proofs.First.{unbound}
 use Rattle.app_check.proofs.Walked.{left_at}
@@ -105,16 +105,16 @@ pub stand_within : (names : List Name) (vs : List (List ℕ)) → StandFirst (So
 stand_within names vs e = omega (arith, length-map names text_of_name, length-take (length names) vs, ap length e)
 
 pub stand_more : (p : Option (List Name)) (vs : List (List ℕ)) (x : List ℕ) → StandFirst p vs → StandFirst p (vs ++ x ∷ [])
-stand_more None vs x e = tt
+stand_more None vs x e = refl
 stand_more (Some names) vs x e = e ∙ sym (take-append-le (length names) vs (x ∷ []) (stand_within names vs e))
 
 pub stand_fewer : (p : Option (List Name)) (vs : List (List ℕ)) (n : ℕ) → StandFirst p vs → StandFirst (kept_parameters n p) (take n vs)
-stand_fewer None vs n e = tt
+stand_fewer None vs n e = refl
 stand_fewer (Some names) vs n e = decide (nat_le (length names) n) refl
   where
     decide : (b : Bool) → b ≡ nat_le (length names) n → StandFirst (cond b (Some names) None) (take n vs)
     decide true is = e ∙ sym (take-take (length names) n vs (small_from (length names) n is))
-    decide false is = tt
+    decide false is = refl
 
 pub stand_all : (names : List Name) (vs : List (List ℕ)) → vs ≡ map text_of_name names → StandFirst (Some names) vs
 stand_all names vs is =

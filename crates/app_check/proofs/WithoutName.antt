@@ -1,7 +1,8 @@
 -- What is known of a declaration that is found without its name.
 use Rattle.std.proofs.Common.{◌≡◌, ℕ, Option, Some, None, refl}
+use Rattle.std.specs.Prelude.{is_none}
 use Rattle.app_tree.specs.Declarations.{Declared}
-use Rattle.app_tree.specs.Faults.{Spot, is_none, is_forward, is_other_count}
+use Rattle.app_tree.specs.Faults.{Spot, is_forward, is_other_count}
 use Rattle.app_check.specs.inner.Tables.{without_name, has_other_count}
 use Rattle.app_check.specs.inner.Spots.{is_declared_forward}
 

@@ -5,7 +5,7 @@ use Rattle.rx_value.specs.declared.value.Value.TheVariants as v
 use Rattle.rx_value.specs.declared.operator.BinOp.TheVariants as bin
 use Rattle.app_tree.specs.declared.term.Read.TheVariants as read
 use Rattle.app_tree.specs.declared.term.Operator.TheVariants as operator
-use Rattle.app_tree.specs.Tree.{get, binary, no_trees, input, value, reactive, text, Shape}
+use Rattle.app_tree.specs.Tree.{get, binary, no_trees, tree, input, value, reactive, text, Shape}
 
 -- ---- a file that is taken, and the app that it stands for
 
@@ -68,3 +68,25 @@ inputs (suc count) number = codes "input n" ++ decimal number ++ codes "=1;" ++ 
 -- from n100 to n600, each of 13 bytes
 abbrev pub items_beyond_limit : List ℕ
 items_beyond_limit = inputs 501 100
+
+-- ---- files with cached readers
+
+-- a part that isn't taken counts all the same
+abbrev pub input_beside_keys : List ℕ
+input_beside_keys = codes "input a = TRUE;\ninput b = 1;\ninput d = 2;\ntext o cache (input$a, input$b) { if (input$a) input$b else input$d }"
+
+abbrev pub input_isolated_in_cached : List ℕ
+input_isolated_in_cached = codes "input b = 1;\ntext o cache (input$b) { isolate(input$b) }"
+
+-- the key is all that the expression reads
+abbrev pub keys_of_expression : List ℕ
+keys_of_expression = codes "input b = 1;\nreactive e { input$b }\ntext o cache (input$b) { e() }"
+
+abbrev pub keys_of_expression_app : Shape
+keys_of_expression_app = record {
+  budget = 1000;
+  items =
+      input (codes "b") (v.Int (pos 1))
+      ∷ reactive (codes "e") no_trees (get (read.Input 0))
+      ∷ text (codes "o") (record { priority = pos 0; while_hidden = false; keys = tree (get (read.Input 0)) no_trees; body = get (read.Expr 0) }) ∷ [];
+}

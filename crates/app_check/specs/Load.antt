@@ -1,5 +1,6 @@
 -- The app that a file's bytes stand for, or why they stand for none.
 use Rattle.std.specs.Prelude.{ℕ, Bool, true, false, List, length, Option, Some, None, Result, Ok, Err, nat_le}
+use Rattle.rx_value.specs.Results.{◌>>=◌}
 use Rattle.app_tokens.specs.declared.error.TokenError.{TokenError}
 use Rattle.app_tokens.specs.declared.error.TokenError.TheVariants as token
 use Rattle.app_tokens.specs.Tokens.{Tokens}
@@ -16,6 +17,7 @@ use Rattle.app_reader.specs.Items.{read_at}
 use Rattle.app_check.specs.declared.limits.TheConstants.{FILE_LIMIT}
 use Rattle.app_check.specs.declared.error.LoadError.{LoadError}
 use Rattle.app_check.specs.declared.error.LoadError.TheVariants as error
+use Rattle.app_check.specs.CachedReaders.{first_uncovered}
 
 -- ---- the refusals of the steps
 
@@ -49,9 +51,14 @@ abbrev pub or_refusal : Result Shape Refusal → Result Shape LoadError
 or_refusal (Ok app) = Ok app
 or_refusal (Err r) = Err (of_refusal r)
 
--- the app that a draft stands for
+abbrev pub unless_uncovered : Option LoadError → Shape → Result Shape LoadError
+unless_uncovered None app = Ok app
+unless_uncovered (Some e) app = Err e
+
+-- the app that a draft stands for, or the first refusal: of the checks that have their order by places, and then of the
+-- cached readers, in rising number
 abbrev pub checked_app : DraftShape → Result Shape LoadError
-checked_app d = or_refusal (checked d)
+checked_app d = or_refusal (checked d) >>= (λ app. unless_uncovered (first_uncovered d app) app)
 
 abbrev pub app_of_draft : Result DraftShape ReadError → Result Shape LoadError
 app_of_draft (Ok d) = checked_app d

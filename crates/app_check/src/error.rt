@@ -43,6 +43,12 @@ pub enum LoadError {
     FoldTooDeep(usize),
     /// An item behind the first [`app_tree::ITEM_LIMIT`]; the place is its first word.
     TooManyItems(usize),
+    /// A read of a cached reader's body that its keys don't cover, the first in the order of the text; the name and
+    /// the place are the reader's, and the second text is the read.
+    Uncovered(RxText, RxText, usize),
+    /// An `isolate` or an event comes first in what a cached reader's body reads; the name and the place are the
+    /// reader's.
+    IsolateInCached(RxText, usize),
     /// Want of memory, which says nothing of the file.
     Memory,
 }
@@ -74,6 +80,17 @@ impl fmt::Display for LoadError {
             LoadError::WriteInExpr(place) => write!(f, "WriteInExpr at {place}"),
             LoadError::FoldTooDeep(place) => write!(f, "FoldTooDeep at {place}"),
             LoadError::TooManyItems(place) => write!(f, "TooManyItems at {place}"),
+            LoadError::Uncovered(name, read, place) => {
+                write!(
+                    f,
+                    "Uncovered {} {} at {place}",
+                    name.as_str(),
+                    read.as_str()
+                )
+            }
+            LoadError::IsolateInCached(name, place) => {
+                write!(f, "IsolateInCached {} at {place}", name.as_str())
+            }
             LoadError::Memory => write!(f, "out of memory"),
         }
     }
@@ -82,7 +99,7 @@ impl fmt::Display for LoadError {
 impl Error for LoadError {}
 
 impl LoadError {
-    /// What is told of the refusal: its name, the refused name where there is one, and the place.
+    /// What is told of the refusal: its name, the refused name and the read where there is one, and the place.
     pub fn note(&self, alloc: Global) -> Result<RxText, Memory>
         ensures { IfOk result (λ text. text ≡ refusal_text self.now) }
     {

@@ -1,9 +1,9 @@
 //! Worked examples, each of which the check finds by computing.
 
 ghost use Rattle.std.specs.Prelude.{◌≡◌, Ok, Err, codes};
-ghost use Rattle.app_check.specs.declared.error.LoadError.TheVariants.{BadByte, OpenText, Unexpected, NameTwice, NameUnknown, ArgCount, ReadInTask, ForwardRead, IsolateInFold, WriteInExpr, FoldTooDeep, TooManyItems};
+ghost use Rattle.app_check.specs.declared.error.LoadError.TheVariants.{BadByte, OpenText, Unexpected, NameTwice, NameUnknown, ArgCount, ReadInTask, ForwardRead, IsolateInFold, WriteInExpr, FoldTooDeep, TooManyItems, Uncovered, IsolateInCached};
 ghost use Rattle.app_check.specs.Load.{loaded};
-ghost use Rattle.app_check.specs.Example.{sum_shown, sum_shown_app, byte_of_no_token, text_without_end, sign_left_out, name_declared_twice, variable_unbound, argument_left_out, input_read_in_task, later_expression_read, isolate_in_last_part, write_in_expression, third_fold_inside, items_beyond_limit};
+ghost use Rattle.app_check.specs.Example.{sum_shown, sum_shown_app, byte_of_no_token, text_without_end, sign_left_out, name_declared_twice, variable_unbound, argument_left_out, input_read_in_task, later_expression_read, isolate_in_last_part, write_in_expression, third_fold_inside, items_beyond_limit, input_beside_keys, input_isolated_in_cached, keys_of_expression, keys_of_expression_app};
 
 /// Does nothing: it is there for its contract. A file and the app that it stands for, and files that are
 /// refused before the checks.
@@ -27,4 +27,13 @@ pub fn worked_examples()
     ensures write_in_expr { loaded write_in_expression ≡ Err (WriteInExpr 26) }
     ensures fold_too_deep { loaded third_fold_inside ≡ Err (FoldTooDeep 47) }
     ensures too_many_items { loaded items_beyond_limit ≡ Err (TooManyItems 6500) }
+{}
+
+/// Does nothing: it is there for its contract. A file whose keys cover its cached output, and one for each way in which
+/// they may not.
+#[tactic(auto, using(crate::proofs::Worked::uncovered, crate::proofs::Worked::isolate_in_cached, crate::proofs::Worked::keys_cover))]
+pub fn worked_cached_readers()
+    ensures uncovered { loaded input_beside_keys ≡ Err (Uncovered (codes "o") (codes "input$d") 47) }
+    ensures isolate_in_cached { loaded input_isolated_in_cached ≡ Err (IsolateInCached (codes "o") 18) }
+    ensures covered { loaded keys_of_expression ≡ Ok keys_of_expression_app }
 {}

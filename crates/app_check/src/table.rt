@@ -101,7 +101,8 @@ fn is_before(found: Option<Declaration>, place: usize) -> bool
     }
 }
 
-fn sort_of(form: &DraftForm) -> Sort
+/// The sort of what an item of this form declares.
+pub fn sort_of(form: &DraftForm) -> Sort
     ensures { result ≡ sort_of_form (written_form form.now) }
 {
     match form {

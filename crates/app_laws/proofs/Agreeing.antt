@@ -4,7 +4,7 @@ use Rattle.rx_value.specs.declared.value.Value.{Value}
 use Rattle.rx_value.specs.declared.value.Value.TheVariants as v
 use Rattle.rx_value.specs.declared.outcome.Outcome.{Outcome}
 use Rattle.rx_value.specs.declared.outcome.Outcome.TheVariants as outcome
-use Rattle.rx_value.specs.Numbers.{numbers_of}
+use Rattle.rx_value.specs.Numbers.{number_list}
 use Rattle.rx_value.specs.Operators.{unary_result, binary_result}
 use Rattle.app_tree.specs.declared.term.Operator.{Operator}
 use Rattle.app_tree.specs.declared.term.Operator.TheVariants as operator
@@ -114,7 +114,7 @@ module _ (a b : Answers) where
     term_agrees (fold list start accumulator element body) args h =
         then_agree (evaluate list a args) (evaluate list b args) _ _ (term_agrees list args)
         (λ x. then_agree (evaluate start a args) (evaluate start b args) _ _ (term_agrees start args)
-        (λ y. list_agree (λ c z. evaluate body a (args ++ c ∷ v.Int z ∷ [])) (λ c z. evaluate body b (args ++ c ∷ v.Int z ∷ [])) (λ c z. term_agrees body (args ++ c ∷ v.Int z ∷ [])) y (numbers_of x))) h
+        (λ y. list_agree (λ c z. evaluate body a (args ++ c ∷ v.Int z ∷ [])) (λ c z. evaluate body b (args ++ c ∷ v.Int z ∷ [])) (λ c z. term_agrees body (args ++ c ∷ v.Int z ∷ [])) y (number_list x))) h
     term_agrees (unary op t) args h = then_agree (evaluate t a args) (evaluate t b args) (λ x. plain (unary_result op x)) (λ x. plain (unary_result op x)) (term_agrees t args) (same_next (λ x. plain (unary_result op x))) h
     term_agrees (binary op l r) args h = then_agree (evaluate l a args) (evaluate l b args) (operated op (evaluate r) a args) (operated op (evaluate r) b args) (term_agrees l args) (operated_agree op (evaluate r) (term_agrees r) args) h
     term_agrees (choice condition m n) args h =

@@ -5,7 +5,7 @@ use Rattle.rx_value.specs.declared.value.Value.{Value}
 use Rattle.rx_value.specs.declared.value.Value.TheVariants as v
 use Rattle.rx_value.specs.declared.outcome.Outcome.{Outcome}
 use Rattle.rx_value.specs.declared.outcome.Outcome.TheVariants as outcome
-use Rattle.rx_value.specs.Numbers.{numbers_of}
+use Rattle.rx_value.specs.Numbers.{number_list}
 use Rattle.rx_value.specs.Operators.{unary_result, binary_result}
 use Rattle.rx_value.specs.Functions.{is_null}
 use Rattle.app_tree.specs.declared.term.Read.{Read}
@@ -144,7 +144,7 @@ module _ (a : Answers) (Q : Read → Type 0) (P : ℕ → ℕ → Evaluation →
         goes n m h (evaluate list a args) (evaluate list a args).outcome _ (omega arith) (omega (i, arith)) (term_has list n m d.0 (front Q (reads_in list) (reads_in start) two) (omega arith) args)
         (λ x. goes m k h (evaluate start a args) (evaluate start a args).outcome _ (omega arith) (omega (i, arith)) (term_has start m k d.1.0 (back Q (reads_in list) (reads_in start) two) (omega arith) args)
         (λ y. each_of (λ c z. evaluate body a (args ++ c ∷ v.Int z ∷ [])) k h (omega (i, arith))
-        (λ c z. term_has body k k (bare_numbered body k none) (back Q (reads_in list ++ reads_in start) (reads_in body) q) (omega (none, arith)) (args ++ c ∷ v.Int z ∷ [])) y (numbers_of x)))
+        (λ c z. term_has body k k (bare_numbered body k none) (back Q (reads_in list ++ reads_in start) (reads_in body) q) (omega (none, arith)) (args ++ c ∷ v.Int z ∷ [])) y (number_list x)))
     term_has (unary op t) n h d q i args = ends n h (evaluate t a args) (λ x. unary_result op x) (omega (i, arith)) (term_has t n h d q i args)
     term_has (binary op l r) n h d q i args =
         let m : ℕ = n + site_count l in

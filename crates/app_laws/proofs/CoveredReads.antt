@@ -44,7 +44,7 @@ module _ (P : Read → Type 0) where
   by_either true b X f g h = f refl
   by_either false b X f g h = g h
 
-  key_has : (keys : Trees) (r : Read) → is_key keys r ≡ true → KeyReads keys → P r
+  pub key_has : (keys : Trees) (r : Read) → is_key keys r ≡ true → KeyReads keys → P r
   key_has no_trees r h p = cc
   key_has (tree (get k) more) r h p = by_either (read_eq k r) (is_key more r) (P r) (λ q. subst P (read_same k r q) p.0) (λ q. key_has more r q p.1) h
   key_has (tree (constant x) more) r h p = key_has more r h p.1

@@ -50,7 +50,7 @@ module _ (a b : Answers) where
   bare_term : (t : Tree) → site_count t ≡ 0 → Every IsReadAlike (reads_in t) → evaluate t b [] ≡ evaluate t a []
   bare_term t bare alike = term_agrees a b t [] (term_has a IsReadAlike AsksAlike asks_alike t 0 0 (bare_numbered t 0 bare) alike (omega (bare, arith)) [] (omega arith))
 
-  bare_node : (i : Node) → IsNumberedNode i → node_sites i ≡ 0 → Every IsReadAlike (reads_in_node i) → evaluate_node (Some i) b ≡ evaluate_node (Some i) a
+  pub bare_node : (i : Node) → IsNumberedNode i → node_sites i ≡ 0 → Every IsReadAlike (reads_in_node i) → evaluate_node (Some i) b ≡ evaluate_node (Some i) a
   bare_node i numbered bare alike =
       node_agrees a b (Some i) (node_has a IsReadAlike AsksAlike asks_alike (λ l h e p. p) (λ l h e p. p) i 0 numbered alike (omega (bare, arith)) (omega arith))
 

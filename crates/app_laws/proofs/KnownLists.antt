@@ -54,7 +54,7 @@ sources_alike app known known' (r ∷ rs) h sources = ap (λ l. sources_of_reads
 
 -- two lists that have the same for each expression below a bound
 module _ (app : Shape) (values : CurrentValues) (known known' : List Known) (bound : ℕ) (same : (m : ℕ) → m < bound → is_expression_at (reader app m) ≡ true → known_at known m ≡ known_at known' m) where
-  same_answer : (r : Read) → ReadsBelow app bound r → answer_to app values known r ≡ answer_to app values known' r
+  pub same_answer : (r : Read) → ReadsBelow app bound r → answer_to app values known r ≡ answer_to app values known' r
   same_answer (read.Expr m) h = ap (λ (k : Known). k.outcome) (same m h.0 h.1)
   same_answer (read.Input s) h = refl
   same_answer (read.Value s) h = refl

@@ -5,7 +5,7 @@ use Rattle.rx_value.specs.declared.value.Value.{Value}
 use Rattle.rx_value.specs.declared.value.Value.TheVariants as v
 use Rattle.rx_value.specs.declared.outcome.Outcome.{Outcome}
 use Rattle.rx_value.specs.declared.outcome.Outcome.TheVariants as outcome
-use Rattle.rx_value.specs.Numbers.{numbers_of}
+use Rattle.rx_value.specs.Numbers.{number_list}
 use Rattle.rx_value.specs.Operators.{unary_result, binary_result}
 use Rattle.rx_value.specs.Functions.{is_null}
 use Rattle.app_tree.specs.declared.term.Read.{Read}
@@ -144,7 +144,7 @@ module _ (a b : Answers) (P : Read → Type 0) where
     term_repeats (fold list start accumulator element body) args =
         both (evaluate list a args) (evaluate list b args) _ _ (term_repeats list args)
         (λ x. both (evaluate start a args) (evaluate start b args) _ _ (term_repeats start args)
-        (λ y. each_of (λ c z. evaluate body a (args ++ c ∷ v.Int z ∷ [])) (λ c z. evaluate body b (args ++ c ∷ v.Int z ∷ [])) (λ c z. term_repeats body (args ++ c ∷ v.Int z ∷ [])) y (numbers_of x)))
+        (λ y. each_of (λ c z. evaluate body a (args ++ c ∷ v.Int z ∷ [])) (λ c z. evaluate body b (args ++ c ∷ v.Int z ∷ [])) (λ c z. term_repeats body (args ++ c ∷ v.Int z ∷ [])) y (number_list x)))
     term_repeats (unary op t) args = ends (evaluate t a args) (evaluate t b args) (λ x. unary_result op x) (term_repeats t args)
     term_repeats (binary op l r) args =
         both (evaluate l a args) (evaluate l b args) (operated op (evaluate r) a args) (operated op (evaluate r) b args) (term_repeats l args) (λ x. operates op (evaluate r) args (term_repeats r args) x)

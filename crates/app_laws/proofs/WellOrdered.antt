@@ -1,5 +1,6 @@
 -- Each well-formed app is orderly.
 use Rattle.std.proofs.Common.{◌≡◌, ◌<◌, ◌≤◌, ℕ, zero, suc, ◌+◌, Bool, true, false, List, [], ◌∷◌, ◌++◌, map, take, filter, length, Option, Some, None, slice_get, nat_le, refl, sym, ◌∙◌, ap, subst, arith, le-leb, leb-false, add_assoc}
+use Rattle.std.specs.Prelude.{is_none}
 use Rattle.app_tree.specs.declared.item.Sort.{Sort}
 use Rattle.app_tree.specs.declared.item.Sort.TheVariants as sort
 use Rattle.app_tree.specs.declared.refusal.Fault.TheVariants as fault
@@ -16,7 +17,7 @@ use Rattle.app_tree.specs.DraftTree as draft
 use Rattle.app_tree.specs.DraftTree.{DraftTree, DraftTrees, DraftDeed, DraftAct, DraftActs, WrittenBody, WrittenForm, WrittenItem, DraftShape}
 use Rattle.app_tree.specs.Declarations.{Declared, is_input_sort, is_value_sort, is_task_sort, is_named_sort, is_reader_sort, declaration, declarations, declared_by, sort_of_form, count_of, number_at}
 use Rattle.app_tree.specs.Resolve.{deed_site_count, sought_by, inner_scope, read_to, resolved_read, draft_site_count, draft_site_count_all, resolved_tree, resolved_trees, act_site_count, acts_site_count, resolved_deed, resolved_act, resolved_acts, resolved_form, resolved_item, resolved}
-use Rattle.app_tree.specs.Faults.{refused, name_refused, is_none, is_at_or_behind, is_forward, unknown_name, in_task_fault, forward_read, isolate_in_fold, fold_too_deep, same_variables, argument_count_fault, tree_count, Spot, in_last_part, Holder, in_expression, elsewhere, read_faults, term_faults, terms_faults, deed_faults, act_faults, acts_faults, writes_faults, body_faults, spot_in, form_faults, item_too_many, second_item, item_faults, items_faults, faults}
+use Rattle.app_tree.specs.Faults.{refused, name_refused, is_at_or_behind, is_forward, unknown_name, in_task_fault, forward_read, isolate_in_fold, fold_too_deep, same_variables, argument_count_fault, tree_count, Spot, in_last_part, Holder, in_expression, elsewhere, read_faults, term_faults, terms_faults, deed_faults, act_faults, acts_faults, writes_faults, body_faults, spot_in, form_faults, item_too_many, second_item, item_faults, items_faults, faults}
 use Rattle.app_tree.specs.WellFormed.{IsWellFormed}
 use Rattle.app_tree.proofs.NoFaults.{nothing_left, nothing_right, holds_not, all_pass}
 use Rattle.app_tree.proofs.Numbers.{finds}

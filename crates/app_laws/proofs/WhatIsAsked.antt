@@ -80,10 +80,10 @@ any_reads rs = every_all IsAnyRead (λ r. tt) rs
 
 -- ---- what is read outside of sites is read
 module _ (a : Answers) (P : Read → Type 0) where
-  abbrev Covers : ℕ → ℕ → Evaluation → Type 0
+  abbrev pub Covers : ℕ → ℕ → Evaluation → Type 0
   Covers l h e = EveryRead P e.asked → Every P e.outside
 
-  covers : IsOfParts a IsAnyRead Covers
+  pub covers : IsOfParts a IsAnyRead Covers
   covers = record {
     nothing = λ l h x i p. tt;
     reading = λ l h r i q p. (p.0, tt);

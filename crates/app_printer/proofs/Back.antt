@@ -14,6 +14,7 @@ use Rattle.app_tree.proofs.Fitting.{fits_unplaced}
 use Rattle.app_tree.proofs.Naming.{named_resolved}
 use Rattle.app_tree.proofs.Places.{passes_alike, resolved_alike}
 use Rattle.app_check.specs.Words.{has_words}
+use Rattle.app_check.proofs.LastChecks.{gives_where_sound}
 use Rattle.app_printer.specs.Laws.{ReadsBack}
 use Rattle.app_printer.proofs.DraftLaws.{text_is_read}
 use Rattle.app_printer.proofs.NamedLaws.{named_is_unplaced}
@@ -28,12 +29,14 @@ reads_back app good words =
     let fit : fits (named app) ≡ true = ap fits as_written ∙ fits_unplaced good.draft ∙ good.fits in
     let back = text_is_read (named app) fit words in
     let same : unplaced good.draft ≡ unplaced back.1 = sym (back.2.same ∙ named_is_unplaced app ∙ as_written) in
+    let stands = checked_alike good.draft back.1 same good.passes ∙ ap Ok good.stands in
     record {
       tokens = back.0;
       draft = back.1;
       cut = back.2.cut;
       is_read = back.2.is_read;
-      stands = checked_alike good.draft back.1 same good.passes ∙ ap Ok good.stands;
+      stands = stands;
+      accepted = (gives_where_sound back.1 app stands).1;
     }
 
 -- what was printed reads back

@@ -25,7 +25,8 @@ use Rattle.app_tree.specs.DraftTree.{DraftTree, constant, group, read, variable,
 use Rattle.app_tree.specs.Fits.{name_fits, literal_fits, term_fits, terms_fit, whole_in, deeper, operators, are_operands, is_signed, arguments_of, count}
 use Rattle.rx_value.specs.Functions.{is_count}
 use Rattle.app_reader.specs.Spelling.{Wording, of_kind, next, a_word, a_word_at, a_symbol, a_name, literal_kind, function_word, sign_symbol, operator_symbol, spell_named, spell_cancels, spell_term, spell_terms, spell_more}
-use Rattle.app_printer.specs.Canonical.{constant_text, read_text, cancels_text, function_text, sign_text, operator_text, term_text, terms_text, more_terms}
+use Rattle.read_text.specs.Spelling.{read_text}
+use Rattle.app_printer.specs.Canonical.{constant_text, cancels_text, function_text, sign_text, operator_text, term_text, terms_text, more_terms}
 use Rattle.app_tree.specs.Unplaced.{unplaced_of, unplaced_tree, unplaced_trees}
 use Rattle.app_check.specs.Words.{term_has_words, terms_have_words}
 use Rattle.app_printer.proofs.Reserved.{word_text}

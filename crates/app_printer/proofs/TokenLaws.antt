@@ -12,7 +12,7 @@ use Rattle.app_tokens.specs.declared.word.Word.{Word}
 use Rattle.app_tokens.specs.declared.symbol.Symbol.{Symbol}
 use Rattle.app_tokens.specs.declared.symbol.Symbol.TheVariants as symbol
 use Rattle.rx_value.specs.Names.{is_letter, is_digit, is_of_word, is_reserved, is_name}
-use Rattle.app_tokens.specs.Scan.{tokens_from, piece_of, token, gap, listed, is_blank, word_piece, kind_of_word}
+use Rattle.app_tokens.specs.Scan.{tokens_from, piece_of, token, gap, token_list, is_blank, word_piece, kind_of_word}
 use Rattle.app_tokens.specs.Symbol.{one_byte_symbol, two_byte_symbol, symbol_of}
 use Rattle.app_tokens.specs.Word.{word_of}
 use Rattle.app_tokens.proofs.Names.{word_of-is_reserved}
@@ -76,15 +76,15 @@ Stands-token total s rest k one w some utf8 piece fits behind = record {
       let after = behind.at (place + length s) (omega (arith, length-append s rest)) in
       let here : place ≡ place_of total (s ++ rest) = omega arith in
       let whole : length (s ++ rest) ≡ length s + length rest = length-append s rest in
-      let P : List ℕ → Type 0 = λ l. joined (listed (Some k) place l) (tokens_from true 0 (place + length s) (drop (length s) (s ++ rest)))
+      let P : List ℕ → Type 0 = λ l. joined (token_list (Some k) place l) (tokens_from true 0 (place + length s) (drop (length s) (s ++ rest)))
       ≡ Ok (record { kind = k; place = place; spelling = s } ∷ after.tokens) in
-      let Q : List ℕ → Type 0 = λ l. joined (listed (Some k) place s) (tokens_from true 0 (place + length s) l)
+      let Q : List ℕ → Type 0 = λ l. joined (token_list (Some k) place s) (tokens_from true 0 (place + length s) l)
       ≡ Ok (record { kind = k; place = place; spelling = s } ∷ after.tokens) in
       let R : ℕ → Type 0 = λ p. IsWanted one (record { kind = k; place = p; spelling = s }) in
       record {
         tokens = record { kind = k; place = place; spelling = s } ∷ after.tokens;
         cut = tokens_from-piece true place (s ++ rest) (token (length s) k) some (omega arith) (piece place)
-            ∙ subst P (sym (take-front s rest)) (subst Q (sym (drop-front s rest)) (ap (joined (listed (Some k) place s)) after.cut));
+            ∙ subst P (sym (take-front s rest)) (subst Q (sym (drop-front s rest)) (ap (joined (token_list (Some k) place s)) after.cut));
         wanted = (subst R (sym here) fits, after.wanted);
       };
 }

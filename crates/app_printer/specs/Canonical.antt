@@ -21,11 +21,10 @@ use Rattle.app_tree.specs.declared.term.Operator.TheVariants as operator
 use Rattle.app_tree.specs.declared.term.Function.{Function}
 use Rattle.app_tree.specs.declared.term.Function.TheVariants as function
 use Rattle.app_tree.specs.declared.draft_term.Name.{Name}
-use Rattle.app_tree.specs.declared.draft_term.ReadForm.{ReadForm}
-use Rattle.app_tree.specs.declared.draft_term.ReadForm.TheVariants as form
 use Rattle.app_tree.specs.Tree.{Shape}
 use Rattle.app_tree.specs.DraftTree.{DraftTree, constant, group, read, variable, isolate, stop, require, fold, unary, binary, choice, call, DraftTrees, no_trees, tree, DraftDeed, set, invoke, update, freeze, WrittenDeed, DraftAct, write, perform, branch, branch_else, DraftActs, no_acts, act, WrittenBody, WrittenOutput, WrittenForm, input, value, task, reactive, event, text, plot, observe, on, WrittenItem, DraftShape}
 use Rattle.app_tree.specs.Named.{named}
+use Rattle.read_text.specs.Spelling.{read_text}
 
 -- ---- words and symbols
 
@@ -107,14 +106,6 @@ constant_text (v.Text bytes) = quoted bytes
 constant_text (v.Ints zs) = codes "c(" ++ numbers_text zs ++ codes ")"
 
 -- ---- terms
-
-abbrev pub read_text : ReadForm → List ℕ → List ℕ
-read_text form.Input name = codes "input$" ++ name
-read_text form.Named name = name ++ codes "()"
-read_text form.Status name = codes "status(" ++ name ++ codes ")"
-read_text form.Result name = codes "result(" ++ name ++ codes ")"
-read_text form.Width name = codes "width(" ++ name ++ codes ")"
-read_text form.Height name = codes "height(" ++ name ++ codes ")"
 
 abbrev pub cancels_text : Bool → List ℕ
 cancels_text true = codes ", cancelOutput"

@@ -12,6 +12,8 @@ use Rattle.app_reader.specs.Items.{read_at}
 use Rattle.app_tree.specs.Faults.{checked}
 use Rattle.app_printer.specs.Canonical.{draft_text, canonical_text}
 use Rattle.app_tree.specs.Unplaced.{unplaced}
+use Rattle.app_tree.specs.Cover.{is_sound}
+use Rattle.app_check.specs.Load.{checked_app}
 use Rattle.app_check.specs.Words.{has_words}
 
 -- the text of a draft is cut into the tokens of the draft's canonical spelling, at the places where they stand
@@ -40,10 +42,12 @@ TextIsRead = (draft : DraftShape) → fits draft ≡ true → has_words draft �
 abbrev pub NamedIsUnplaced : Type 0
 NamedIsUnplaced = (app : Shape) → unplaced (named app) ≡ named app
 
--- the text of an app is cut into tokens that are read as a draft which no check refuses, and which stands for that app
+-- the text of an app is cut into tokens that are read as a draft which no check refuses, and which stands for that app; only
+-- its cached readers may be refused, where their keys don't cover their bodies
 pub record ReadsBack (app : Shape) : Type 0 where
   pub tokens : Tokens
   pub draft : DraftShape
   pub cut : tokens_of (canonical_text app) ≡ Ok tokens
   pub is_read : read_at tokens ≡ Ok draft
   pub stands : checked draft ≡ Ok app
+  pub accepted : is_sound app ≡ true → checked_app draft ≡ Ok app

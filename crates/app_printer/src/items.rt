@@ -265,7 +265,8 @@ fn app_text(alloc: Global, app: &App) -> Result<RxText, Memory>
 
 /// The canonical text of an app: a line for the budget, and a line for each item in its order. Where
 /// each item is named by a word that isn't reserved, as in each app that `app_check::load` answers,
-/// the text stands for this app, but that it may be longer than a file may be.
+/// the text stands for this app, but that it may be longer than a file may be. Where the app is sound, as each
+/// that `load` answers, no check refuses it.
 pub fn print(alloc: Global, app: &App) -> Result<RxText, Memory>
     ensures text { IfOk result (λ text. text ≡ canonical_text (shape_of app.now)) }
     ensures utf8 { IfOk result (λ text. IsUtf8 text) }

@@ -6,6 +6,7 @@ ghost use Rattle.app_tree.specs.Declarations.{node_declarations, source_name, re
 ghost use Rattle.app_tree.specs.Named.{name_of_read};
 
 use app_tree::{App, Read};
+use read_text::name_of_read;
 use std::alloc::Global;
 use std::marker::Model;
 
@@ -57,14 +58,6 @@ impl<'a> Names<'a> {
     pub fn read(&self, read: Read) -> &'a str
         ensures { result.now ≡ name_of_read self.now read }
     {
-        match read {
-            Read::Input(source) => self.source(source),
-            Read::Value(source) => self.source(source),
-            Read::Status(source) => self.source(source),
-            Read::Result(source) => self.source(source),
-            Read::Expr(reader) => self.reader(reader),
-            Read::Width(reader) => self.reader(reader),
-            Read::Height(reader) => self.reader(reader),
-        }
+        name_of_read(self.app, read)
     }
 }

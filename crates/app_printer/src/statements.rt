@@ -9,8 +9,9 @@ ghost use Rattle.app_printer.specs.inner.Written.{closed_text, closed_texts};
 
 use crate::names::Names;
 use crate::scope::Scope;
-use crate::terms::{write_before, write_enclosed, write_terms};
+use crate::terms::{write_before, write_terms};
 use app_tree::{Statement, Term};
+use read_text::write_enclosed;
 use rx_value::{Memory, RxText};
 
 /// Writes a term without variables, and a fixed text behind it.

@@ -2,39 +2,16 @@
 
 ghost use Rattle.std.specs.Prelude.{◌≡◌, ◌++◌, OnOk, codes};
 ghost use Rattle.app_tree.specs.View.{tree_of, trees_of_terms};
-ghost use Rattle.app_tree.specs.Named.{named_form};
 ghost use Rattle.app_printer.specs.inner.Names.{names_inside};
-ghost use Rattle.app_printer.specs.Canonical.{operator_text, sign_text, function_text, read_text, cancels_text};
+ghost use Rattle.app_printer.specs.Canonical.{operator_text, sign_text, function_text, cancels_text};
 ghost use Rattle.app_printer.specs.inner.Written.{text_in, texts_in};
 
 use crate::constants::{write_number, write_text, write_truth};
 use crate::scope::Scope;
 use crate::words::{function_text, operator_text, sign_text};
-use app_tree::{Function, Operator, Read, Term};
+use app_tree::{Function, Operator, Term};
+use read_text::{write_enclosed, write_read};
 use rx_value::{Memory, RxText, UnOp};
-
-/// Writes a name between two fixed texts.
-pub fn write_enclosed(before: &str, name: &str, after: &str, out: &mut RxText) -> Result<(), Memory>
-    ensures { OnOk result (out.new ≡ out.old ++ (before.now ++ name.now ++ after.now)) }
-{
-    out.push_str(before)?;
-    out.push_str(name)?;
-    out.push_str(after)
-}
-
-fn write_read(name: &str, read: Read, out: &mut RxText) -> Result<(), Memory>
-    ensures { OnOk result (out.new ≡ out.old ++ read_text (named_form read) name.now) }
-{
-    match read {
-        Read::Input(_) => write_enclosed("input$", name, "", out),
-        Read::Value(_) => write_enclosed("", name, "()", out),
-        Read::Expr(_) => write_enclosed("", name, "()", out),
-        Read::Status(_) => write_enclosed("status(", name, ")", out),
-        Read::Result(_) => write_enclosed("result(", name, ")", out),
-        Read::Width(_) => write_enclosed("width(", name, ")", out),
-        Read::Height(_) => write_enclosed("height(", name, ")", out),
-    }
-}
 
 fn write_operator(operator: Operator, out: &mut RxText) -> Result<(), Memory>
     ensures { OnOk result (out.new ≡ out.old ++ (codes " " ++ operator_text operator ++ codes " ")) }

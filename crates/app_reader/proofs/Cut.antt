@@ -20,7 +20,7 @@ use Rattle.app_tokens.specs.Word.{word_of}
 use Rattle.app_tokens.specs.Symbol.{symbol_of}
 use Rattle.rx_value.specs.Names.{is_letter, is_digit, is_of_word}
 use Rattle.rx_value.specs.Results.{choose, ◌>>=◌}
-use Rattle.app_tokens.specs.Scan.{is_blank, is_of_comment, gap, token, kind_of_word, word_piece, value_after, number_piece, cut_off, is_pair, meaning_of, text_from, limited, text_piece, found_symbol, symbol_piece, piece_of, listed, tokens_from, tokens_of}
+use Rattle.app_tokens.specs.Scan.{is_blank, is_of_comment, gap, token, kind_of_word, word_piece, value_after, number_piece, refusal_at_end, is_pair, meaning_of, text_from, piece_within_limit, text_piece, found_symbol, symbol_piece, piece_of, token_list, tokens_from, tokens_of}
 use Rattle.app_tokens.proofs.Digits.{take-length-take_while}
 use Rattle.app_tokens.proofs.Names.{word_of-is_reserved}
 use Rattle.app_tokens.proofs.Pieces.{IsCut-piece, tokens_from-piece, tokens_from-fails}
@@ -69,7 +69,7 @@ pair_byte c e = by (nat_eq c (byte "\"")) (nat_eq c (byte "\\")) (nat_eq c (byte
     by false false true iq is_ in_ e = subst (λ c. is_text_byte (meaning_of c) ≡ true) (eq_of c (byte "n") in_) refl
     by false false false iq is_ in_ e = absurd cc
 
-cut_off_no : {A : Type 0} (whole : Bool) (quote place : ℕ) (y : A) → cut_off whole quote place ≡ Ok y → ⊥
+cut_off_no : {A : Type 0} (whole : Bool) (quote place : ℕ) (y : A) → refusal_at_end whole quote place ≡ Ok y → ⊥
 cut_off_no true quote place y e = cc
 cut_off_no false quote place y e = cc
 
@@ -83,9 +83,9 @@ text_from_fits : (whole : Bool) (quote place : ℕ) (value bytes : List ℕ) (y 
 unfolding text_from
 text_from_fits whole quote place value [] y h e = absurd (cut_off_no whole quote place y e)
 text_from_fits whole quote place value (b ∷ []) y h e =
-    chosen (nat_eq b (byte "\"")) (λ v. Ok (v, place + 1)) (choose (nat_eq b (byte "\\")) (λ v. cut_off whole quote place) (choose (nat_lt b 32) (λ v. Err (BadByte place)) (λ v. text_from whole quote (place + 1) (v ++ b ∷ []) []))) value (AreTextBytes y.0) e
+    chosen (nat_eq b (byte "\"")) (λ v. Ok (v, place + 1)) (choose (nat_eq b (byte "\\")) (λ v. refusal_at_end whole quote place) (choose (nat_lt b 32) (λ v. Err (BadByte place)) (λ v. text_from whole quote (place + 1) (v ++ b ∷ []) []))) value (AreTextBytes y.0) e
     (λ t f. ended place value y f h)
-    (λ t f. chosen (nat_eq b (byte "\\")) (λ v. cut_off whole quote place) (choose (nat_lt b 32) (λ v. Err (BadByte place)) (λ v. text_from whole quote (place + 1) (v ++ b ∷ []) [])) value (AreTextBytes y.0) f
+    (λ t f. chosen (nat_eq b (byte "\\")) (λ v. refusal_at_end whole quote place) (choose (nat_lt b 32) (λ v. Err (BadByte place)) (λ v. text_from whole quote (place + 1) (v ++ b ∷ []) [])) value (AreTextBytes y.0) f
     (λ t f. absurd (cut_off_no whole quote place y f))
     (λ t f. chosen (nat_lt b 32) (λ v. Err (BadByte place)) (λ v. text_from whole quote (place + 1) (v ++ b ∷ []) []) value (AreTextBytes y.0) f
     (λ t f. absurd cc)
@@ -117,7 +117,7 @@ PieceFits bytes p = option_fits p.kind (take p.size bytes) ≡ true
 piece_is : (bytes : List ℕ) (p q : Piece) → done p ≡ done q → PieceFits bytes p → PieceFits bytes q
 piece_is bytes p q e h = subst (PieceFits bytes) (ok_is p q e) h
 
-limited_fits : (size : ℕ) (value : List ℕ) (quote : ℕ) (bytes : List ℕ) (p : Piece) → AreTextBytes value → IsUtf8 value → limited size value quote ≡ Ok p → PieceFits bytes p
+limited_fits : (size : ℕ) (value : List ℕ) (quote : ℕ) (bytes : List ℕ) (p : Piece) → AreTextBytes value → IsUtf8 value → piece_within_limit size value quote ≡ Ok p → PieceFits bytes p
 limited_fits size value quote bytes p h utf8 e = by (nat_le (length value) 65536) refl e
   where
     by : (b : Bool) → nat_le (length value) 65536 ≡ b → (if b then Ok (token size (kind.Text value)) else Err (BadByte quote)) ≡ done p → PieceFits bytes p
@@ -129,7 +129,7 @@ limited_fits size value quote bytes p h utf8 e = by (nat_le (length value) 65536
 text_piece_fits : (whole : Bool) (quote : ℕ) (inside bytes : List ℕ) (p : Piece) → IsUtf8 inside → text_piece whole quote inside ≡ Ok p → PieceFits bytes p
 unfolding text_piece
 text_piece_fits whole quote inside bytes p utf8 e =
-    let t = bind_ok (text_from whole quote (quote + 1) [] inside) (λ t. limited (t.1 - quote) t.0 quote) p e in
+    let t = bind_ok (text_from whole quote (quote + 1) [] inside) (λ t. piece_within_limit (t.1 - quote) t.0 quote) p e in
     limited_fits (t.0.1 - quote) t.0.0 quote bytes p (text_from_fits whole quote (quote + 1) [] inside t.0 refl t.1) (text_from-utf8 whole quote (quote + 1) inside t.0 utf8 t.1) t.2
 
 number_piece_fits : (place : ℕ) (digits bytes : List ℕ) (p : Piece) → number_piece place digits ≡ Ok p → PieceFits bytes p
@@ -194,7 +194,7 @@ piece_fits whole place (b ∷ bs) p utf8 e =
 
 -- ---- whole files
 
-listed_fits : (o : Option Kind) (place : ℕ) (spelling : List ℕ) (more : List Token) → option_fits o spelling ≡ true → tokens_fit more ≡ true → tokens_fit (listed o place spelling ++ more) ≡ true
+listed_fits : (o : Option Kind) (place : ℕ) (spelling : List ℕ) (more : List Token) → option_fits o spelling ≡ true → tokens_fit more ≡ true → tokens_fit (token_list o place spelling ++ more) ≡ true
 listed_fits None place spelling more h k = k
 listed_fits (Some x) place spelling more h k = and_from (kind_fits x spelling) (tokens_fit more) h k
 
@@ -213,10 +213,10 @@ next_fits n whole place b bs found (Ok p) below le utf8 is e =
     let cut = IsCut-piece whole place (b ∷ bs) p utf8 is in
     let spelling = take p.size (b ∷ bs) in
     let after = drop p.size (b ∷ bs) in
-    let m = bind_ok (tokens_from whole 0 (place + p.size) after) (λ more. Ok (listed p.kind place spelling ++ more)) found
+    let m = bind_ok (tokens_from whole 0 (place + p.size) after) (λ more. Ok (token_list p.kind place spelling ++ more)) found
     (sym (tokens_from-piece whole place (b ∷ bs) p cut.some cut.boundary.0 is) ∙ e) in
     let fewer : length after < n = omega (arith, le, cut.some, length-drop p.size (b ∷ bs)) in
-    subst (λ ts. tokens_fit ts ≡ true) (ok_is (listed p.kind place spelling ++ m.0) found m.2)
+    subst (λ ts. tokens_fit ts ≡ true) (ok_is (token_list p.kind place spelling ++ m.0) found m.2)
     (listed_fits p.kind place spelling m.0 (piece_fits whole place (b ∷ bs) p utf8 is)
     (below (place + p.size) after m.0 fewer (IsUtf8-drop (b ∷ bs) p.size utf8 cut.boundary) m.1))
 

@@ -224,6 +224,103 @@ const CHECKS: [Case; 53] = [
     ),
 ];
 
+/// Files with cached readers.
+const CACHED_READERS: [Case; 20] = [
+    // a part that isn't taken counts
+    (
+        b"input a = TRUE;\ninput b = 1;\ninput d = 2;\ntext o cache (input$a, input$b) { if (input$a) input$b else input$d }",
+        "Uncovered o input$d at 47",
+    ),
+    // an expression as a key, and one whose reads are keys
+    (
+        b"input a = TRUE;\ninput b = 1;\ninput d = 2;\nreactive e { input$b + input$d }\ntext o cache (e()) { e() * 2 }",
+        "accepted",
+    ),
+    (
+        b"input a = TRUE;\ninput b = 1;\ninput d = 2;\nreactive e { input$b + input$d }\ntext o cache (input$b, input$d) { e() }",
+        "accepted",
+    ),
+    (
+        b"input a = TRUE;\ninput b = 1;\ninput d = 2;\nreactive e { input$b + input$d }\ntext o cache (e()) { input$b }",
+        "Uncovered o input$b at 80",
+    ),
+    (
+        b"input a = TRUE;\ninput b = 1;\ninput d = 2;\nreactive e { input$b + input$d }\ntext o cache (input$b) { e() }",
+        "Uncovered o input$d at 80",
+    ),
+    // isolates and events
+    (
+        b"input b = 1;\ntext o cache (input$b) { isolate(input$b) }",
+        "IsolateInCached o at 18",
+    ),
+    (
+        b"input b = 1;\ntext o cache (isolate(input$b)) { 1 }",
+        "accepted",
+    ),
+    (
+        b"input b = 1;\nreactive e { isolate(input$b) }\ntext o cache (input$b) { e() }",
+        "IsolateInCached o at 50",
+    ),
+    (
+        b"input b = 1;\nevent e (input$b) { 1 }\ntext o cache (input$b) { e() }",
+        "IsolateInCached o at 42",
+    ),
+    (
+        b"input b = 1;\nevent e (input$b) { 1 }\ntext o cache (1) { e() }",
+        "Uncovered o input$b at 42",
+    ),
+    (
+        b"input b = 1;\nevent e (input$b) { 1 }\ntext o cache (e()) { e() }",
+        "accepted",
+    ),
+    // the keys of an expression are read before its body
+    (
+        b"input a = 1;\ninput b = 1;\nreactive e cache (input$a, input$b) { input$b }\ntext o cache (input$b) { e() }",
+        "Uncovered o input$a at 79",
+    ),
+    // a key in brackets is none, and what a key reads is not covered
+    (
+        b"input b = 1;\ntext o cache ((input$b)) { input$b }",
+        "Uncovered o input$b at 18",
+    ),
+    (
+        b"input b = 1;\ntext o cache (input$b + 1) { input$b }",
+        "Uncovered o input$b at 18",
+    ),
+    // how each read is spelled
+    (
+        b"value v = 1;\ntext o cache (1) { v() }",
+        "Uncovered o v() at 18",
+    ),
+    (
+        b"task t() { 1 }\ntext o cache (1) { c(status(t), result(t)) }",
+        "Uncovered o status(t) at 20",
+    ),
+    (
+        b"task t() { 1 }\nplot p cache (status(t)) { result(t) }",
+        "Uncovered p result(t) at 20",
+    ),
+    (
+        b"plot p cache (width(p)) { bars(width(p), height(p), \"\", c()) }",
+        "Uncovered p height(p) at 5",
+    ),
+    // by number among the readers, behind all other checks
+    (
+        b"input a = 1;\ntext o cache (1) { input$a }\ntext q cache (1) { isolate(1) }",
+        "Uncovered o input$a at 18",
+    ),
+    (
+        b"input a = 1;\ntext o cache (1) { input$a }\ntext q { x }",
+        "NameUnknown x at 51",
+    ),
+];
+
+#[test]
+fn refuses_cached_readers_that_are_not_covered(rt: HostRuntime) -> Result<(), Fail> {
+    compare(&rt, rt.alloc(), Stage::App, &CACHED_READERS)?;
+    Ok(())
+}
+
 #[test]
 fn refuses_at_the_first_place_of_each_step(rt: HostRuntime) -> Result<(), Fail> {
     compare(&rt, rt.alloc(), Stage::App, &BYTES_AND_TOKENS)?;
@@ -304,7 +401,7 @@ value v = 0;
 task t(x, y) { fold(c(x, y), 0, sum_, k, sum_ + k) }
 reactive e cache (input$n, v()) { input$n + v() }
 event g ignoreInit allowNull (e()) { isolate(e()) %% 7 %/% 2 }
-text o priority -3 whileHidden cache (e()) { paste0(e(), g(), status(t), if (input$b) 1 else stop(\"no\")) }
+text o priority -3 whileHidden cache (e(), g(), status(t), input$b) { paste0(e(), g(), status(t), if (input$b) 1 else stop(\"no\")) }
 plot p { bars(width(p), height(p), \"title\", seq(1, input$n)) }
 observe w priority 2 {
   set v = req(e(), cancelOutput); invoke t(1, min(input$l)); update n = max(input$l); freeze n;

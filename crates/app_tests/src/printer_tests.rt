@@ -32,8 +32,8 @@ fn writes_each_form(rt: HostRuntime) -> Result<(), Fail> {
             "budget 1000;\ntask t () { 1 }\ntask u (x, y) { x + y }\n",
         ),
         (
-            "input a=1;reactive e cache(input$a,2){input$a}plot p priority -3 whileHidden cache(e()){bars(width(p),height(p),\"\",e())}",
-            "budget 1000;\ninput a = 1;\nreactive e cache (input$a, 2) { input$a }\nplot p priority -3 whileHidden cache (e()) { bars(width(p), height(p), \"\", e()) }\n",
+            "input a=1;reactive e cache(input$a,2){input$a}plot p priority -3 whileHidden cache(width(p),height(p),e()){bars(width(p),height(p),\"\",e())}",
+            "budget 1000;\ninput a = 1;\nreactive e cache (input$a, 2) { input$a }\nplot p priority -3 whileHidden cache (width(p), height(p), e()) { bars(width(p), height(p), \"\", e()) }\n",
         ),
         (
             "input a=1;event e ignoreInit(input$a){1}event f allowNull(2){e()}event g ignoreInit allowNull(3){f()}event h(4){5}",

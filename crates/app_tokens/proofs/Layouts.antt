@@ -16,7 +16,7 @@ use Rattle.app_tokens.specs.Symbol.{symbol_of}
 use Rattle.rx_value.specs.Names.{is_letter, is_digit, is_of_word}
 use Rattle.rx_value.specs.Results.{choose, ◌>>=◌}
 use Rattle.rx_value.specs.declared.limits.TheConstants.{TEXT_LIMIT, GREATEST_NUMBER}
-use Rattle.app_tokens.specs.Scan.{is_blank, is_of_comment, value_after, word_piece, number_piece, text_from, limited, text_piece, found_symbol, symbol_piece, piece_of, tokens_from, listed, gap, token}
+use Rattle.app_tokens.specs.Scan.{is_blank, is_of_comment, value_after, word_piece, number_piece, text_from, piece_within_limit, text_piece, found_symbol, symbol_piece, piece_of, tokens_from, token_list, gap, token}
 use Rattle.app_tokens.specs.Tokens.{Tokens}
 use Rattle.std.specs.Result.{IfOk}
 use Rattle.app_tokens.specs.Layout.{comment_after, StandBehind, StandIn}
@@ -62,7 +62,7 @@ number_token place digits p e = each (nat_le (value_after 0 digits) GREATEST_NUM
     each true e = let is : token (length digits) (kind.Number (value_after 0 digits)) ≡ p = cc in let P : Piece → Type 0 = λ q. IsToken q in subst P is refl
     each false e = cc
 
-limited_token : (size : ℕ) (value : List ℕ) (quote : ℕ) (p : Piece) → limited size value quote ≡ Ok p → IsToken p
+limited_token : (size : ℕ) (value : List ℕ) (quote : ℕ) (p : Piece) → piece_within_limit size value quote ≡ Ok p → IsToken p
 limited_token size value quote p e = each (nat_le (length value) TEXT_LIMIT) e
   where
     each : (t : Bool) → (if t then Ok (token size (kind.Text value)) else Err (BadByte quote)) ≡ Ok p → IsToken p
@@ -73,7 +73,7 @@ text_token : (whole : Bool) (quote : ℕ) (inside : List ℕ) (p : Piece) → te
 unfolding text_piece
 text_token whole quote inside p e = each (text_from whole quote (quote + 1) [] inside) e
   where
-    each : (r : Result (List ℕ × ℕ) TokenError) → (r >>= λ t. limited (t.1 - quote) t.0 quote) ≡ Ok p → IsToken p
+    each : (r : Result (List ℕ × ℕ) TokenError) → (r >>= λ t. piece_within_limit (t.1 - quote) t.0 quote) ≡ Ok p → IsToken p
     each (Err x) e = cc
     each (Ok t) e = limited_token (t.1 - quote) t.0 quote p e
 
@@ -173,12 +173,12 @@ stand-gap place size bs ts more before le leaves is stand =
 
 -- and a token with those behind it
 stand-token : (place : ℕ) (b : ℕ) (bs : List ℕ) (p : Piece) (ts more : List Token) (before : Bool) → p.size ≤ length (b ∷ bs) → Closes before (b ∷ bs)
-    → is_blank b ≡ false → IsToken p → listed p.kind place (take p.size (b ∷ bs)) ++ more ≡ ts
+    → is_blank b ≡ false → IsToken p → token_list p.kind place (take p.size (b ∷ bs)) ++ more ≡ ts
     → StandBehind false (place + p.size) (drop p.size (b ∷ bs)) more → StandBehind before place (b ∷ bs) ts
 stand-token place b bs p ts more true le close clear one is stand = absurd (grind arith)
 stand-token place b bs p ts more false le close clear one is stand = each p.kind one is
   where
-    each : (k : Option Kind) → IsSome k → listed k place (take p.size (b ∷ bs)) ++ more ≡ ts → StandBehind false place (b ∷ bs) ts
+    each : (k : Option Kind) → IsSome k → token_list k place (take p.size (b ∷ bs)) ++ more ≡ ts → StandBehind false place (b ∷ bs) ts
     each None one is = cc
     each (Some k) one is =
         let P : List Token → Type 0 = λ us. StandBehind false place (b ∷ bs) us in
@@ -196,7 +196,7 @@ stand-token place b bs p ts more false le close clear one is stand = each p.kind
 Goes : ℕ → Bool → ℕ → List ℕ → List Token → Bool → Piece → Type 0
 Goes n whole place bs ts before p =
     (more : List Token) → IsCut bs p.size → tokens_from whole 0 (place + p.size) (drop p.size bs) ≡ Ok more
-    → ok (listed p.kind place (take p.size bs) ++ more) ≡ Ok ts → IsUtf8 (drop p.size bs) → StandBehind before place bs ts
+    → ok (token_list p.kind place (take p.size bs) ++ more) ≡ Ok ts → IsUtf8 (drop p.size bs) → StandBehind before place bs ts
 
 goes-gap : (n : ℕ) (whole : Bool) (place size : ℕ) (bs : List ℕ) (ts : List Token) (before : Bool) → length bs ≤ suc n → StandsBelow n whole
     → Leaves before (take size bs) (drop size bs) → Goes n whole place bs ts before (gap size)
@@ -233,7 +233,7 @@ stand-piece n whole place b bs ts before le utf8 close below e = each (piece_of 
   where
     further : (p : Piece) (r : Result (List Token) TokenError) → piece_of whole place (b ∷ bs) ≡ Ok p → IsCut (b ∷ bs) p.size
         → tokens_from whole 0 (place + p.size) (drop p.size (b ∷ bs)) ≡ r
-        → joined (listed p.kind place (take p.size (b ∷ bs))) r ≡ Ok ts → StandBehind before place (b ∷ bs) ts
+        → joined (token_list p.kind place (take p.size (b ∷ bs))) r ≡ Ok ts → StandBehind before place (b ∷ bs) ts
     further p (Err x) is cut rest all = cc
     further p (Ok more) is cut rest all =
         goes n whole place b bs ts before p le below close is more cut rest all

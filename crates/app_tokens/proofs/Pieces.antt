@@ -16,7 +16,7 @@ use Rattle.app_tokens.specs.Symbol.{symbol_of, sized_or, one_byte_symbol, two_by
 use Rattle.rx_value.specs.Names.{is_letter, is_digit, is_of_word}
 use Rattle.rx_value.specs.Results.{choose, ◌>>=◌, RefusesOrMemory}
 use Rattle.rx_value.specs.declared.limits.TheConstants.{TEXT_LIMIT, GREATEST_NUMBER}
-use Rattle.app_tokens.specs.Scan.{value_after, gap, token, limited, is_blank, is_of_comment, word_piece, number_piece, found_symbol, symbol_piece, text_piece, text_from, refusal, cut_off, is_pair, meaning_of, piece_of, tokens_from, listed}
+use Rattle.app_tokens.specs.Scan.{value_after, gap, token, piece_within_limit, is_blank, is_of_comment, word_piece, number_piece, found_symbol, symbol_piece, text_piece, text_from, refusal, refusal_at_end, is_pair, meaning_of, piece_of, tokens_from, token_list}
 use Rattle.app_tokens.proofs.Texts.{length-take_while, IsCharBoundary-run}
 
 -- tokens before those that come, if they come
@@ -39,11 +39,11 @@ tokens_from-skipped whole (suc n) place (b ∷ bs) le =
 -- behind a piece stand the tokens of what is left
 pub tokens_from-piece : (whole : Bool) (place : ℕ) (bs : List ℕ) (p : Piece) → 0 < p.size → p.size ≤ length bs
     → piece_of whole place bs ≡ Ok p
-    → tokens_from whole 0 place bs ≡ joined (listed p.kind place (take p.size bs)) (tokens_from whole 0 (place + p.size) (drop p.size bs))
+    → tokens_from whole 0 place bs ≡ joined (token_list p.kind place (take p.size bs)) (tokens_from whole 0 (place + p.size) (drop p.size bs))
 unfolding tokens_from
 tokens_from-piece whole place [] p some le is = absurd (omega arith)
 tokens_from-piece whole place (b ∷ bs) p some le is =
-    rw is (ap (joined (listed p.kind place (take p.size (b ∷ bs)))) (behind p.size some le))
+    rw is (ap (joined (token_list p.kind place (take p.size (b ∷ bs)))) (behind p.size some le))
   where
     behind : (size : ℕ) → 0 < size → size ≤ length (b ∷ bs)
         → tokens_from whole (size - 1) (place + 1) bs ≡ tokens_from whole 0 (place + size) (drop size (b ∷ bs))
@@ -168,7 +168,7 @@ closes_here : (place b : ℕ) (bs value : List ℕ) (t : List ℕ × ℕ) → na
 closes_here place b bs value t quote e =
     let is : (value, place + 1) ≡ t = cc in (0, sym (ap (λ (k : List ℕ × ℕ). k.1) is) ∙ omega arith, omega arith, grind arith)
 
-never_cut_off : (whole : Bool) (quote place : ℕ) (t : List ℕ × ℕ) {P : Type 0} → cut_off whole quote place ≡ Ok t → P
+never_cut_off : (whole : Bool) (quote place : ℕ) (t : List ℕ × ℕ) {P : Type 0} → refusal_at_end whole quote place ≡ Ok t → P
 never_cut_off true quote place t e = cc
 never_cut_off false quote place t e = cc
 
@@ -180,7 +180,7 @@ text_from-closes whole quote place value [] t e = never_cut_off whole quote plac
 text_from-closes whole quote place value (b ∷ []) t e = each (nat_eq b 34) (nat_eq b 92) (nat_lt b 32) refl e
   where
     each : (q s l : Bool) → nat_eq b 34 ≡ q
-        → choose q (λ v. Ok (v, place + 1)) (choose s (λ v. cut_off whole quote place)
+        → choose q (λ v. Ok (v, place + 1)) (choose s (λ v. refusal_at_end whole quote place)
         (choose l (λ v. Err (BadByte place)) (λ v. text_from whole quote (place + 1) (v ++ b ∷ []) []))) value ≡ Ok t
         → Closes place (b ∷ []) t.1
     each true s l q e = closes_here place b [] value t q e
@@ -210,8 +210,8 @@ text_from-closes whole quote place value (b ∷ c ∷ bs) t e =
     each false false true p q two one e = cc
     each false false false p q two one e = further t.1 (c ∷ bs) (one (value ++ b ∷ []) e)
 
-limited-size : (size : ℕ) (value : List ℕ) (quote : ℕ) (p : Piece) → limited size value quote ≡ Ok p → p.size ≡ size
-limited-size size value quote p e = each (nat_le (length value) TEXT_LIMIT) e
+piece_within_limit-size : (size : ℕ) (value : List ℕ) (quote : ℕ) (p : Piece) → piece_within_limit size value quote ≡ Ok p → p.size ≡ size
+piece_within_limit-size size value quote p e = each (nat_le (length value) TEXT_LIMIT) e
   where
     each : (t : Bool) → (if t then Ok (token size (kind.Text value)) else Err (BadByte quote)) ≡ Ok p → p.size ≡ size
     each true e = let is : token size (kind.Text value) ≡ p = cc in sym (ap (λ (q : Piece). q.size) is)
@@ -224,11 +224,11 @@ unfolding text_piece
 IsCut-text whole quote b inside p utf8 e = each (text_from whole quote (quote + 1) [] inside) refl e
   where
     each : (r : Result (List ℕ × ℕ) TokenError) → text_from whole quote (quote + 1) [] inside ≡ r
-        → (r >>= λ t. limited (t.1 - quote) t.0 quote) ≡ Ok p → IsCut (b ∷ inside) p.size
+        → (r >>= λ t. piece_within_limit (t.1 - quote) t.0 quote) ≡ Ok p → IsCut (b ∷ inside) p.size
     each (Err x) is e = cc
     each (Ok t) is e =
         let closes = text_from-closes whole quote (quote + 1) [] inside t is in
-        let size = limited-size (t.1 - quote) t.0 quote p e in
+        let size = piece_within_limit-size (t.1 - quote) t.0 quote p e in
         IsCut-ascii (b ∷ inside) p.size (suc closes.0) utf8 (omega (arith, size, closes.1)) (omega (arith, closes.2)) (omega (arith, closes.3))
 
 number_piece-size : (place : ℕ) (digits : List ℕ) (p : Piece) → number_piece place digits ≡ Ok p → p.size ≡ length digits
@@ -294,12 +294,12 @@ pub scan_step : (whole : Bool) (text rest after : List ℕ) (tokens now : List T
     → IsUtf8 rest → length rest ≤ length text
     → joined tokens (tokens_from whole 0 (length text - length rest) rest) ≡ tokens_from whole 0 0 text
     → piece_of whole (length text - length rest) rest ≡ Ok p → after ≡ drop p.size rest
-    → now ≡ tokens ++ listed p.kind (length text - length rest) (take p.size rest)
+    → now ≡ tokens ++ token_list p.kind (length text - length rest) (take p.size rest)
     → (length after < length rest) × (joined now (tokens_from whole 0 (length text - length after) after) ≡ tokens_from whole 0 0 text)
 scan_step whole text rest after tokens now p utf8 within said is behind pushed =
     let place = length text - length rest in
     let cut = IsCut-piece whole place rest p utf8 is in
-    let one = listed p.kind place (take p.size rest) in
+    let one = token_list p.kind place (take p.size rest) in
     let fewer : length after + p.size ≡ length rest = omega (arith, ap length behind, length-drop p.size rest, cut.some, cut.boundary.0) in (
       omega (arith, cut.some),
       ap (λ ts. joined ts (tokens_from whole 0 (length text - length after) after)) pushed

@@ -10,7 +10,7 @@ use Rattle.app_tokens.specs.declared.piece.Piece.{Piece}
 use Rattle.app_tokens.specs.declared.error.TokenError.{TokenError}
 use Rattle.app_tokens.specs.declared.error.TokenError.TheVariants.{BadByte, OpenText, Memory}
 use Rattle.rx_value.specs.Results.{choose, ◌>>=◌, RefusesOrMemory, GivesOrMemory}
-use Rattle.app_tokens.specs.Scan.{limited, text_piece, text_from, cut_off, is_pair, meaning_of, refusal}
+use Rattle.app_tokens.specs.Scan.{piece_within_limit, text_piece, text_from, refusal_at_end, is_pair, meaning_of, refusal}
 use Rattle.app_tokens.specs.inner.Text.{is_plain, pair_of}
 
 -- what an error says where the definition gives it
@@ -112,24 +112,24 @@ abbrev pub behind : Bool → ℕ → ℕ → List ℕ → List ℕ → Option �
 behind whole quote place value bs None = Ok (value, place + 1)
 behind whole quote place value bs (Some m) = text_from whole quote (place + 2) (value ++ m ∷ []) (drop 2 bs)
 
-cut_off-behind : (whole : Bool) (quote place : ℕ) (value bs : List ℕ)
-    → cut_off {A = List ℕ × ℕ} whole quote place ≡ (cut_off {A = Option ℕ} whole quote place >>= behind whole quote place value bs)
-cut_off-behind true quote place value bs = refl
-cut_off-behind false quote place value bs = refl
+refusal_at_end-behind : (whole : Bool) (quote place : ℕ) (value bs : List ℕ)
+    → refusal_at_end {A = List ℕ × ℕ} whole quote place ≡ (refusal_at_end {A = Option ℕ} whole quote place >>= behind whole quote place value bs)
+refusal_at_end-behind true quote place value bs = refl
+refusal_at_end-behind false quote place value bs = refl
 
 -- what is no plain byte is the closing quote, a pair, or refused
 pub text_from-pair : (whole : Bool) (quote place : ℕ) (value bs : List ℕ) → begins_plain bs ≡ false
     → text_from whole quote place value bs ≡ (pair_of whole quote place bs >>= behind whole quote place value bs)
 unfolding text_from pair_of
-text_from-pair whole quote place value [] e = cut_off-behind whole quote place value []
+text_from-pair whole quote place value [] e = refusal_at_end-behind whole quote place value []
 text_from-pair whole quote place value (b ∷ []) e = each (nat_eq b 34) (nat_eq b 92) (nat_lt b 32) e
   where
     each : (q s l : Bool) → not (q || s || l) ≡ false
-        → choose q (λ v. Ok (v, place + 1)) (choose s (λ v. cut_off whole quote place)
+        → choose q (λ v. Ok (v, place + 1)) (choose s (λ v. refusal_at_end whole quote place)
         (choose l (λ v. Err (BadByte place)) (λ v. text_from whole quote (place + 1) (v ++ b ∷ []) []))) value
-        ≡ ((if q then Ok None else (if s then cut_off whole quote place else Err (BadByte place))) >>= behind whole quote place value (b ∷ []))
+        ≡ ((if q then Ok None else (if s then refusal_at_end whole quote place else Err (BadByte place))) >>= behind whole quote place value (b ∷ []))
     each true s l e = refl
-    each false true l e = cut_off-behind whole quote place value (b ∷ [])
+    each false true l e = refusal_at_end-behind whole quote place value (b ∷ [])
     each false false true e = refl
     each false false false e = cc
 text_from-pair whole quote place value (b ∷ c ∷ bs) e = each (nat_eq b 34) (nat_eq b 92) (nat_lt b 32) (is_pair c) e
@@ -197,8 +197,8 @@ text_piece-fails whole quote inside value rest after bytes e r within is said sa
     (text_from whole quote (quote + 1) [] inside)
     (turn whole quote inside value rest after (text_from whole quote (quote + 1) [] inside) within is said)
     (subst P same (sym pair)) in
-    GivesOrMemory-from r (text_from whole quote (quote + 1) [] inside >>= λ t. limited (t.1 - quote) t.0 quote)
-    (ap (λ (t : Result (List ℕ × ℕ) TokenError). t >>= λ t. limited (t.1 - quote) t.0 quote) failed ∙ sym (p.1 ∙ ap (λ y. Err y) p.2))
+    GivesOrMemory-from r (text_from whole quote (quote + 1) [] inside >>= λ t. piece_within_limit (t.1 - quote) t.0 quote)
+    (ap (λ (t : Result (List ℕ × ℕ) TokenError). t >>= λ t. piece_within_limit (t.1 - quote) t.0 quote) failed ∙ sym (p.1 ∙ ap (λ y. Err y) p.2))
 
 -- the text ends where the turn finds its closing quote
 pub text_piece-ends : (whole : Bool) (quote : ℕ) (inside value now rest after bytes : List ℕ) (r : Result Piece TokenError)
@@ -206,7 +206,7 @@ pub text_piece-ends : (whole : Bool) (quote : ℕ) (inside value now rest after 
     → text_from whole quote (quote + 1 + (length inside - length rest)) value rest ≡ text_from whole quote (quote + 1) [] inside
     → now ≡ value ++ take_while is_plain rest
     → bytes ≡ after → Ok None ≡ pair_of whole quote (quote + 1 + (length inside - length after)) bytes
-    → r ≡ limited (quote + 1 + (length inside - length after) + 1 - quote) now quote → GivesOrMemory (λ p. p) refusal r (text_piece whole quote inside)
+    → r ≡ piece_within_limit (quote + 1 + (length inside - length after) + 1 - quote) now quote → GivesOrMemory (λ p. p) refusal r (text_piece whole quote inside)
 unfolding text_piece
 text_piece-ends whole quote inside value now rest after bytes r within is said pushed same pair gives =
     let P : List ℕ → Type 0 = λ bs. pair_of whole quote (quote + 1 + (length inside - length after)) bs ≡ Ok None in
@@ -214,9 +214,9 @@ text_piece-ends whole quote inside value now rest after bytes r within is said p
     (text_from whole quote (quote + 1) [] inside)
     (turn whole quote inside value rest after (text_from whole quote (quote + 1) [] inside) within is said)
     (subst P same (sym pair)) in
-    GivesOrMemory-from r (text_from whole quote (quote + 1) [] inside >>= λ t. limited (t.1 - quote) t.0 quote)
-    (ap (λ (t : Result (List ℕ × ℕ) TokenError). t >>= λ t. limited (t.1 - quote) t.0 quote) ended
-    ∙ sym (gives ∙ ap (λ v. limited (quote + 1 + (length inside - length after) + 1 - quote) v quote) pushed))
+    GivesOrMemory-from r (text_from whole quote (quote + 1) [] inside >>= λ t. piece_within_limit (t.1 - quote) t.0 quote)
+    (ap (λ (t : Result (List ℕ × ℕ) TokenError). t >>= λ t. piece_within_limit (t.1 - quote) t.0 quote) ended
+    ∙ sym (gives ∙ ap (λ v. piece_within_limit (quote + 1 + (length inside - length after) + 1 - quote) v quote) pushed))
 
 -- what the loop keeps, behind a pair
 pub text_from-kept : (whole : Bool) (quote m : ℕ) (inside value now next rest after bytes more : List ℕ)

@@ -6,7 +6,7 @@ use Rattle.std.proofs.lemmas.Str.{IsUtf8-append, IsUtf8-from_ascii, IsUtf8-take,
 use Rattle.app_tokens.specs.declared.error.TokenError.{TokenError}
 use Rattle.app_tokens.specs.declared.error.TokenError.TheVariants.{BadByte}
 use Rattle.rx_value.specs.Results.{◌>>=◌}
-use Rattle.app_tokens.specs.Scan.{text_from, cut_off, is_pair, meaning_of}
+use Rattle.app_tokens.specs.Scan.{text_from, refusal_at_end, is_pair, meaning_of}
 use Rattle.app_tokens.specs.inner.Text.{is_plain, pair_of}
 use Rattle.app_tokens.proofs.Digits.{take-length-take_while}
 use Rattle.app_tokens.proofs.Texts.{text_from-turn, IsCharBoundary-plain, behind}
@@ -21,7 +21,7 @@ ok x = Ok x
 ok_is : {A : Type 0} (x y : A) → ok x ≡ ok y → x ≡ y
 ok_is x y e = cc
 
-cut_off_no : {A P : Type 0} (whole : Bool) (quote place : ℕ) (y : A) → cut_off whole quote place ≡ Ok y → P
+cut_off_no : {A P : Type 0} (whole : Bool) (quote place : ℕ) (y : A) → refusal_at_end whole quote place ≡ Ok y → P
 cut_off_no true quote place y e = absurd cc
 cut_off_no false quote place y e = absurd cc
 
@@ -53,7 +53,7 @@ unfolding pair_of
 pair_is whole quote place m [] e = cut_off_no whole quote place (Some m) e
 pair_is whole quote place m (b ∷ []) e = each (nat_eq b 34) (nat_eq b 92) e
   where
-    each : (q s : Bool) → (if q then Ok None else (if s then cut_off whole quote place else Err (BadByte place))) ≡ ok (Some m) → Paired m (b ∷ [])
+    each : (q s : Bool) → (if q then Ok None else (if s then refusal_at_end whole quote place else Err (BadByte place))) ≡ ok (Some m) → Paired m (b ∷ [])
     each true s e = absurd cc
     each false true e = cut_off_no whole quote place (Some m) e
     each false false e = absurd cc

@@ -62,8 +62,8 @@ number_piece place digits =
     (λ ds. Ok (token (length ds) (kind.Number (value_after 0 ds)))) (λ ds. Err (BadByte place)) digits
 
 -- the bytes end inside a text: the text stays open, unless they end because the next byte is no UTF-8
-abbrev pub cut_off : {A : Type 0} → Bool → ℕ → ℕ → Result A TokenError
-cut_off whole quote place = if whole then Err (OpenText quote) else Err (BadByte place)
+abbrev pub refusal_at_end : {A : Type 0} → Bool → ℕ → ℕ → Result A TokenError
+refusal_at_end whole quote place = if whole then Err (OpenText quote) else Err (BadByte place)
 
 -- a byte that makes a pair with a backslash before it
 abbrev pub is_pair : ℕ → Bool
@@ -76,10 +76,10 @@ meaning_of c = if nat_eq c (byte "n") then 10 else c
 -- a text from a place behind its opening quote, with the value so far: the whole value, and the place behind the
 -- closing quote
 unfoldable pub text_from : Bool → ℕ → ℕ → List ℕ → List ℕ → Result (List ℕ × ℕ) TokenError
-text_from whole quote place value [] = cut_off whole quote place
+text_from whole quote place value [] = refusal_at_end whole quote place
 text_from whole quote place value (b ∷ []) =
     choose (nat_eq b (byte "\"")) (λ v. Ok (v, place + 1))
-    (choose (nat_eq b (byte "\\")) (λ v. cut_off whole quote place)
+    (choose (nat_eq b (byte "\\")) (λ v. refusal_at_end whole quote place)
     (choose (nat_lt b 32) (λ v. Err (BadByte place))
     (λ v. text_from whole quote (place + 1) (v ++ b ∷ []) []))) value
 text_from whole quote place value (b ∷ c ∷ rest) =
@@ -91,13 +91,13 @@ text_from whole quote place value (b ∷ c ∷ rest) =
     (λ v. text_from whole quote (place + 1) (v ++ b ∷ []) (c ∷ rest)))) value
 
 -- a whole text of so many bytes, whose value may have at most 65,536 bytes
-abbrev pub limited : ℕ → List ℕ → ℕ → Result Piece TokenError
-limited size value quote =
+abbrev pub piece_within_limit : ℕ → List ℕ → ℕ → Result Piece TokenError
+piece_within_limit size value quote =
     if nat_le (length value) TEXT_LIMIT then Ok (token size (kind.Text value)) else Err (BadByte quote)
 
 -- the text that opens at a quote, by the bytes behind the quote
 unfoldable pub text_piece : Bool → ℕ → List ℕ → Result Piece TokenError
-text_piece whole quote inside = text_from whole quote (quote + 1) [] inside >>= λ t. limited (t.1 - quote) t.0 quote
+text_piece whole quote inside = text_from whole quote (quote + 1) [] inside >>= λ t. piece_within_limit (t.1 - quote) t.0 quote
 
 -- the symbol that was found at a place, with its length
 abbrev pub found_symbol : ℕ → Option (Symbol × ℕ) → Result Piece TokenError
@@ -120,9 +120,9 @@ piece_of whole place (b ∷ bs) =
     (λ rest. symbol_piece place (b ∷ rest)))))) bs
 
 -- a piece at this place with this spelling, as a list of one token, or of none
-abbrev pub listed : Option Kind → ℕ → List ℕ → List Token
-listed None place spelling = []
-listed (Some k) place spelling = record { kind = k; place = place; spelling = spelling } ∷ []
+abbrev pub token_list : Option Kind → ℕ → List ℕ → List Token
+token_list None place spelling = []
+token_list (Some k) place spelling = record { kind = k; place = place; spelling = spelling } ∷ []
 
 -- the tokens of the bytes, which stand at this place; first so many of them are passed over, as those of the piece
 -- before
@@ -132,7 +132,7 @@ tokens_from whole (suc n) place (b ∷ bs) = tokens_from whole n (place + 1) bs
 tokens_from whole zero place (b ∷ bs) =
     piece_of whole place (b ∷ bs) >>= λ p.
     tokens_from whole (p.size - 1) (place + 1) bs >>= λ more.
-    Ok (listed p.kind place (take p.size (b ∷ bs)) ++ more)
+    Ok (token_list p.kind place (take p.size (b ∷ bs)) ++ more)
 
 -- these are the tokens of a text
 pub record AreCut (tokens : List Token) : Type 0 where

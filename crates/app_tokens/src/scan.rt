@@ -4,7 +4,7 @@ ghost use Rattle.std.specs.Prelude.{◌≡◌, ◌+◌, ◌++◌, length, Ok, tr
 ghost use Rattle.std.specs.Str.{IsUtf8};
 ghost use Rattle.rx_value.specs.Results.{RefusesOrMemory};
 ghost use Rattle.app_tokens.specs.Layout.{StandIn};
-ghost use Rattle.app_tokens.specs.Scan.{refusal, listed, tokens_from, tokens_of};
+ghost use Rattle.app_tokens.specs.Scan.{refusal, token_list, tokens_from, tokens_of};
 
 use crate::error::TokenError;
 use crate::list::TokenList;
@@ -20,7 +20,7 @@ fn push_token<'a>(
     place: usize,
     spelling: &'a str,
 ) -> Result<(), Memory>
-    ensures { OnOk result (tokens.new.items ≡ tokens.old.items ++ listed kind place spelling.now) }
+    ensures { OnOk result (tokens.new.items ≡ tokens.old.items ++ token_list kind place spelling.now) }
 {
     if let Some(kind) = kind {
         let spelling = Spelling::new(spelling);

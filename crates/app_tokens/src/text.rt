@@ -2,7 +2,7 @@
 
 ghost use Rattle.std.specs.Prelude.{◌≡◌, ◌<◌, ◌+◌, ◌∷◌, [], ◌++◌, ◌^◌, length, drop, take_while, slice_index, IfOk, OnOk, IfSome, OnSome, IsTrue, SomeIff, ⊤};
 ghost use Rattle.rx_value.specs.Results.{GivesOrMemory};
-ghost use Rattle.app_tokens.specs.Scan.{refusal, is_pair, meaning_of, cut_off, limited, text_piece};
+ghost use Rattle.app_tokens.specs.Scan.{refusal, is_pair, meaning_of, refusal_at_end, piece_within_limit, text_piece};
 ghost use Rattle.app_tokens.specs.inner.Text.{is_plain, pair_of};
 
 use crate::error::TokenError;
@@ -44,8 +44,8 @@ fn meaning(byte: u8) -> Option<u8>
     }
 }
 
-fn cut_off(whole: bool, quote: usize, place: usize) -> TokenError
-    ensures { cut_off {A = ⊤} whole quote place ≡ Err result }
+fn refusal_at_end(whole: bool, quote: usize, place: usize) -> TokenError
+    ensures { refusal_at_end {A = ⊤} whole quote place ≡ Err result }
 {
     if whole {
         TokenError::OpenText(quote)
@@ -67,7 +67,7 @@ fn pair(bytes: &[u8], whole: bool, quote: usize, place: usize) -> Result<Option<
             Some(byte) => Ok(Some(byte)),
             None => Err(TokenError::BadByte(place)),
         },
-        [] | [b'\\'] => Err(cut_off(whole, quote, place)),
+        [] | [b'\\'] => Err(refusal_at_end(whole, quote, place)),
         _ => Err(TokenError::BadByte(place)),
     }
 }
@@ -88,8 +88,8 @@ fn behind_pair(rest: &str) -> &str
 }
 
 /// A text of this value, which may be too long.
-fn limited(size: usize, value: RxText, quote: usize) -> Result<Piece, TokenError>
-    ensures { result ≡ limited size value quote }
+fn piece_within_limit(size: usize, value: RxText, quote: usize) -> Result<Piece, TokenError>
+    ensures { result ≡ piece_within_limit size value quote }
 {
     if value.len() <= TEXT_LIMIT {
         Ok(token(size, Kind::Text(value)))
@@ -114,7 +114,7 @@ pub fn text(alloc: Global, inside: &str, quote: usize, whole: bool) -> Result<Pi
                 push_ascii(&mut value, byte)?;
                 rest = behind_pair(rest);
             }
-            None => return limited(place + 1 - quote, value, quote),
+            None => return piece_within_limit(place + 1 - quote, value, quote),
         }
     }
 }

@@ -1,6 +1,7 @@
 -- The app that a draft stands for, where no check refuses the draft, is written as that draft: its names stand for the
 -- numbers that they were resolved to.
 use Rattle.std.proofs.Common.{◌≡◌, ℕ, suc, ◌+◌, Bool, true, false, List, [], ◌∷◌, ◌++◌, map, Option, Some, None, slice_get, refl, sym, ◌∙◌, ap, subst}
+use Rattle.std.specs.Prelude.{is_none}
 use Rattle.std.proofs.lemmas.List.{length-map}
 use Rattle.app_tree.specs.declared.item.Sort.{Sort}
 use Rattle.app_tree.specs.declared.item.Sort.TheVariants as sort
@@ -13,7 +14,7 @@ use Rattle.app_tree.specs.DraftTree as draft
 use Rattle.app_tree.specs.DraftTree.{DraftTree, DraftTrees, DraftDeed, WrittenDeed, DraftAct, DraftActs, WrittenBody, WrittenOutput, WrittenForm, WrittenItem, DraftShape}
 use Rattle.app_tree.specs.Declarations.{Declared, is_input_sort, is_value_sort, is_task_sort, is_named_sort, is_output_sort, is_reader_sort, declaration, declarations, declared_by, node_declarations, declared_by_node, sort_of_form, parameter_count, number_at, source_name, reader_name}
 use Rattle.app_tree.specs.Resolve.{text_of_name, sought_by, innermost, number_or_zero, number_named, named_read, read_to, resolved_read, draft_site_count, draft_site_count_all, act_site_count, acts_site_count, resolved_tree, resolved_trees, resolved_deed, resolved_act, resolved_acts, resolved_output, resolved_form, resolved_item, resolved}
-use Rattle.app_tree.specs.Faults.{name_refused, unknown_name, unbound_variable, in_task_fault, forward_read, isolate_in_fold, fold_too_deep, same_variables, argument_count_fault, tree_count, Spot, in_last_part, is_none, term_faults, terms_faults, deed_faults, act_faults, acts_faults, writes_faults, body_faults, output_faults, form_faults, item_faults, items_faults, faults, item_too_many, second_item, repeated_names, spot_in, in_task, in_expression, elsewhere}
+use Rattle.app_tree.specs.Faults.{name_refused, unknown_name, unbound_variable, in_task_fault, forward_read, isolate_in_fold, fold_too_deep, same_variables, argument_count_fault, tree_count, Spot, in_last_part, term_faults, terms_faults, deed_faults, act_faults, acts_faults, writes_faults, body_faults, output_faults, form_faults, item_faults, items_faults, faults, item_too_many, second_item, repeated_names, spot_in, in_task, in_expression, elsewhere}
 use Rattle.app_tree.specs.Named.{unplaced_name, named_form, name_of_read, variable_name, named_tree, named_trees, named_act, named_acts, named_body, named_output, named_node, named_item, named}
 use Rattle.app_tree.specs.Unplaced.{unplaced_of, unplaced_tree, unplaced_trees, unplaced_deed, unplaced_act, unplaced_acts, unplaced_body, unplaced_output, unplaced_form, unplaced_item, unplaced}
 use Rattle.app_tree.proofs.NoFaults.{nothing_left, nothing_right, holds_not, all_pass}

@@ -1,6 +1,6 @@
 -- Places change neither the app that a draft stands for nor, but for their places, the checks that it fails.
 use Rattle.std.proofs.Common.{◌≡◌, ℕ, suc, ◌+◌, Bool, true, false, List, [], ◌∷◌, ◌++◌, map, take, nat_eq, nat_le, refl, sym, ◌∙◌, ap, subst}
-use Rattle.std.specs.Prelude.{bytes_eq}
+use Rattle.std.specs.Prelude.{is_none, bytes_eq}
 use Rattle.std.proofs.lemmas.List.{map-append, length-map, take-map}
 use Rattle.app_tree.specs.declared.item.Sort.{Sort}
 use Rattle.app_tree.specs.declared.refusal.Fault.{Fault}
@@ -13,7 +13,7 @@ use Rattle.app_tree.specs.DraftTree as draft
 use Rattle.app_tree.specs.DraftTree.{DraftTree, DraftTrees, DraftDeed, WrittenDeed, DraftAct, DraftActs, WrittenBody, WrittenOutput, WrittenForm, WrittenItem, DraftShape}
 use Rattle.app_tree.specs.Declarations.{Declared, is_input_sort, is_value_sort, is_task_sort, declaration, declarations, sort_of_form, parameter_count}
 use Rattle.app_tree.specs.Resolve.{text_of_name, draft_site_count, draft_site_count_all, deed_site_count, act_site_count, acts_site_count, resolved_tree, resolved_trees, resolved_deed, resolved_act, resolved_acts, resolved_output, resolved_form, resolved_item, resolved, inner_scope, sought_by, innermost}
-use Rattle.app_tree.specs.Faults.{refused, name_refused, where_fails, unknown_name, in_task_fault, forward_read, read_faults, is_in_task, is_forward, isolate_in_fold, fold_too_deep, same_variables, argument_count_fault, is_other_count, is_named_among, declared_name, item_too_many, second_item, Spot, in_last_part, is_none, term_faults, terms_faults, tree_count, deed_faults, act_faults, acts_faults, write_faults, writes_faults, spot_in, repeated_names, body_faults, output_faults, form_faults, item_faults, items_faults, faults, in_task, in_expression, elsewhere}
+use Rattle.app_tree.specs.Faults.{refused, name_refused, where_fails, unknown_name, in_task_fault, forward_read, read_faults, is_in_task, is_forward, isolate_in_fold, fold_too_deep, same_variables, argument_count_fault, is_other_count, is_named_among, declared_name, item_too_many, second_item, Spot, in_last_part, term_faults, terms_faults, tree_count, deed_faults, act_faults, acts_faults, write_faults, writes_faults, spot_in, repeated_names, body_faults, output_faults, form_faults, item_faults, items_faults, faults, in_task, in_expression, elsewhere}
 use Rattle.app_tree.specs.Unplaced.{unplaced_of, unplaced_tree, unplaced_trees, unplaced_deed, unplaced_written, unplaced_act, unplaced_acts, unplaced_body, unplaced_output, unplaced_form, unplaced_item, unplaced}
 
 -- ---- sites

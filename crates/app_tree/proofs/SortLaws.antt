@@ -11,75 +11,39 @@ use Rattle.app_tree.specs.Sorts.{is_of, items_of}
 use Rattle.app_tree.specs.FewSources.{HasFew}
 use Rattle.app_tree.specs.View.{node_of}
 
-input_is : (i : Node) → is_of sorts.Inputs i ≡ is_input i
-input_is (input name start) = refl
-input_is (value name start) = refl
-input_is (task name parameters body) = refl
-input_is (reactive name keys body) = refl
-input_is (event name flags e body) = refl
-input_is (text name shown) = refl
-input_is (plot name shown) = refl
-input_is (observe name priority block) = refl
-input_is (on name priority flags e block) = refl
+-- the sorts of the numbering, all by the same nine cases
+record IsByKind (i : Node) : Type 0 where
+  inputs : is_of sorts.Inputs i ≡ is_input i
+  values : is_of sorts.Values i ≡ is_value i
+  tasks : is_of sorts.Tasks i ≡ is_task i
+  outputs : is_of sorts.Outputs i ≡ is_output i
+  readers : is_of sorts.Readers i ≡ is_reader i
 
-value_is : (i : Node) → is_of sorts.Values i ≡ is_value i
-value_is (input name start) = refl
-value_is (value name start) = refl
-value_is (task name parameters body) = refl
-value_is (reactive name keys body) = refl
-value_is (event name flags e body) = refl
-value_is (text name shown) = refl
-value_is (plot name shown) = refl
-value_is (observe name priority block) = refl
-value_is (on name priority flags e block) = refl
-
-task_is : (i : Node) → is_of sorts.Tasks i ≡ is_task i
-task_is (input name start) = refl
-task_is (value name start) = refl
-task_is (task name parameters body) = refl
-task_is (reactive name keys body) = refl
-task_is (event name flags e body) = refl
-task_is (text name shown) = refl
-task_is (plot name shown) = refl
-task_is (observe name priority block) = refl
-task_is (on name priority flags e block) = refl
-
-output_is : (i : Node) → is_of sorts.Outputs i ≡ is_output i
-output_is (input name start) = refl
-output_is (value name start) = refl
-output_is (task name parameters body) = refl
-output_is (reactive name keys body) = refl
-output_is (event name flags e body) = refl
-output_is (text name shown) = refl
-output_is (plot name shown) = refl
-output_is (observe name priority block) = refl
-output_is (on name priority flags e block) = refl
-
-reader_is : (i : Node) → is_of sorts.Readers i ≡ is_reader i
-reader_is (input name start) = refl
-reader_is (value name start) = refl
-reader_is (task name parameters body) = refl
-reader_is (reactive name keys body) = refl
-reader_is (event name flags e body) = refl
-reader_is (text name shown) = refl
-reader_is (plot name shown) = refl
-reader_is (observe name priority block) = refl
-reader_is (on name priority flags e block) = refl
+by_kind : (i : Node) → IsByKind i
+by_kind (input name start) = record { inputs = refl; values = refl; tasks = refl; outputs = refl; readers = refl }
+by_kind (value name start) = record { inputs = refl; values = refl; tasks = refl; outputs = refl; readers = refl }
+by_kind (task name parameters body) = record { inputs = refl; values = refl; tasks = refl; outputs = refl; readers = refl }
+by_kind (reactive name keys body) = record { inputs = refl; values = refl; tasks = refl; outputs = refl; readers = refl }
+by_kind (event name flags e body) = record { inputs = refl; values = refl; tasks = refl; outputs = refl; readers = refl }
+by_kind (text name shown) = record { inputs = refl; values = refl; tasks = refl; outputs = refl; readers = refl }
+by_kind (plot name shown) = record { inputs = refl; values = refl; tasks = refl; outputs = refl; readers = refl }
+by_kind (observe name priority block) = record { inputs = refl; values = refl; tasks = refl; outputs = refl; readers = refl }
+by_kind (on name priority flags e block) = record { inputs = refl; values = refl; tasks = refl; outputs = refl; readers = refl }
 
 pub inputs_are : is_of sorts.Inputs ≡ is_input
-inputs_are = λ j. λ i. input_is i j
+inputs_are = λ j. λ i. (by_kind i).inputs j
 
 pub values_are : is_of sorts.Values ≡ is_value
-values_are = λ j. λ i. value_is i j
+values_are = λ j. λ i. (by_kind i).values j
 
 pub tasks_are : is_of sorts.Tasks ≡ is_task
-tasks_are = λ j. λ i. task_is i j
+tasks_are = λ j. λ i. (by_kind i).tasks j
 
 pub outputs_are : is_of sorts.Outputs ≡ is_output
-outputs_are = λ j. λ i. output_is i j
+outputs_are = λ j. λ i. (by_kind i).outputs j
 
 pub readers_are : is_of sorts.Readers ≡ is_reader
-readers_are = λ j. λ i. reader_is i j
+readers_are = λ j. λ i. (by_kind i).readers j
 
 -- ---- counts
 

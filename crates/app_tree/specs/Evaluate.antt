@@ -7,7 +7,7 @@ use Rattle.rx_value.specs.declared.outcome.Outcome.{Outcome}
 use Rattle.rx_value.specs.declared.outcome.Outcome.TheVariants.{Val, Fail, Stop, Cancel}
 use Rattle.rx_value.specs.declared.failure.Failure.TheVariants.{WrongKind, NotACondition}
 use Rattle.rx_value.specs.Failure.{failure_outcome}
-use Rattle.rx_value.specs.Numbers.{numbers_of}
+use Rattle.rx_value.specs.Numbers.{number_list}
 use Rattle.rx_value.specs.Truth.{is_truthy}
 use Rattle.rx_value.specs.Operators.{unary_result, binary_result}
 use Rattle.rx_value.specs.Functions.{function_result}
@@ -138,7 +138,7 @@ abbrev mutual
   evaluate (require t cancels) answers args = then_with (evaluate t answers args) (λ x. plain (required cancels x))
   evaluate (fold list start accumulator element body) answers args =
       then_with (evaluate list answers args) (λ x. then_with (evaluate start answers args) (λ y.
-      over_list (λ a z. evaluate body answers (args ++ a ∷ v.Int z ∷ [])) y (numbers_of x)))
+      over_list (λ a z. evaluate body answers (args ++ a ∷ v.Int z ∷ [])) y (number_list x)))
   evaluate (unary op t) answers args = then_with (evaluate t answers args) (λ x. plain (unary_result op x))
   evaluate (binary op a b) answers args = then_with (evaluate a answers args) (operated op (evaluate b) answers args)
   evaluate (choice condition m n) answers args = then_with (evaluate condition answers args) (chosen_by (evaluate m) (evaluate n) answers args)

@@ -1,5 +1,5 @@
 -- The checks that a draft has to pass: each that it fails, with its place, and the first of them.
-use Rattle.std.specs.Prelude.{ℕ, suc, Bool, true, false, not, ◌&&◌, ◌||◌, List, [], ◌∷◌, ◌++◌, map, take, Option, Some, None, Result, Ok, Err, nat_eq, nat_lt, nat_le, bytes_eq, if◌then◌else◌}
+use Rattle.std.specs.Prelude.{ℕ, suc, Bool, true, false, not, ◌&&◌, ◌||◌, List, [], ◌∷◌, ◌++◌, map, take, Option, Some, None, is_none, Result, Ok, Err, nat_eq, nat_lt, nat_le, bytes_eq, if◌then◌else◌}
 use Rattle.app_tree.specs.declared.limits.TheConstants.{ITEM_LIMIT, FOLD_LIMIT}
 use Rattle.app_tree.specs.declared.item.Sort.{Sort}
 use Rattle.app_tree.specs.declared.item.Sort.TheVariants as sort
@@ -60,10 +60,6 @@ in_last_part spot accumulator element =
     record spot { scope = inner_scope spot.scope accumulator.text element.text; last_parts = suc spot.last_parts }
 
 -- ---- the checks of names
-
-abbrev pub is_none : {A : Type 0} → Option A → Bool
-is_none None = true
-is_none (Some x) = false
 
 -- a name that is not declared in a sort that its place needs
 abbrev pub unknown_name : List Declared → (Sort → Bool) → Name → List Refusal

@@ -14,7 +14,7 @@ use Rattle.rx_value.specs.declared.function.Fun.TheVariants as fun
 use Rattle.rx_value.specs.declared.limits.TheConstants.{TEXT_LIMIT, LIST_LIMIT}
 use Rattle.rx_value.specs.Arithmetic.{is_in_range}
 use Rattle.rx_value.specs.Failure.{failure_outcome}
-use Rattle.rx_value.specs.Numbers.{numbers_of}
+use Rattle.rx_value.specs.Numbers.{number_list}
 use Rattle.rx_value.specs.Operators.{number_outcome, bool_outcome}
 use Rattle.rx_value.specs.Show.{show}
 
@@ -44,11 +44,11 @@ of_list meaning (Some zs) = meaning zs
 of_list meaning None = failure_outcome f.WrongKind
 
 abbrev pub is_list : Value → Bool
-is_list x = is_some (numbers_of x)
+is_list x = is_some (number_list x)
 
 abbrev pub all_numbers : List Value → List ℤ
 all_numbers [] = []
-all_numbers (x ∷ xs) = unwrap_or (numbers_of x) [] ++ all_numbers xs
+all_numbers (x ∷ xs) = unwrap_or (number_list x) [] ++ all_numbers xs
 
 -- the numbers of all the values, where each is a list
 abbrev pub joined_numbers : List Value → Option (List ℤ)
@@ -180,10 +180,10 @@ function_result fun.C xs = of_list list_outcome (joined_numbers xs)
 function_result fun.Paste0 xs = text_outcome (joined_texts xs)
 function_result fun.Length xs = of_one (λ x. o.Val (v.Int (pos (length_of x)))) xs
 function_result fun.Nchar xs = of_one characters_of xs
-function_result fun.Item xs = of_two (λ x i. item_of (numbers_of x) i) xs
-function_result fun.Sum xs = of_one (λ x. of_list (λ zs. number_outcome (sum_of zs)) (numbers_of x)) xs
-function_result fun.Min xs = of_one (λ x. of_list (λ zs. number_found (least_of zs)) (numbers_of x)) xs
-function_result fun.Max xs = of_one (λ x. of_list (λ zs. number_found (greatest_of zs)) (numbers_of x)) xs
+function_result fun.Item xs = of_two (λ x i. item_of (number_list x) i) xs
+function_result fun.Sum xs = of_one (λ x. of_list (λ zs. number_outcome (sum_of zs)) (number_list x)) xs
+function_result fun.Min xs = of_one (λ x. of_list (λ zs. number_found (least_of zs)) (number_list x)) xs
+function_result fun.Max xs = of_one (λ x. of_list (λ zs. number_found (greatest_of zs)) (number_list x)) xs
 function_result fun.Seq xs = of_two sequence_of xs
 function_result fun.IsNull xs = of_one (λ x. bool_outcome (is_null x)) xs
 function_result fun.AsInt xs = of_one (λ x. o.Val (as_number x)) xs

@@ -16,7 +16,7 @@ use Rattle.rx_value.specs.declared.plot.Plot.{Plot}
 use Rattle.rx_value.specs.declared.plot.Plot.TheVariants.{Bars, Lines, Points}
 use Rattle.rx_value.specs.declared.limits.TheConstants.{TEXT_LIMIT, PLOT_SIDE_MIN, PLOT_SIDE_MAX}
 use Rattle.rx_value.specs.Failure.{failure_outcome}
-use Rattle.rx_value.specs.Numbers.{numbers_of}
+use Rattle.rx_value.specs.Numbers.{number_list}
 
 -- the least of 0 and the numbers
 abbrev pub least : List ℤ → ℤ
@@ -116,8 +116,8 @@ abbrev pub is_barred : ℕ → Bool
 is_barred c = nat_le c 0x8 || c == 0xB || c == 0xC || (nat_le 0xE c && nat_le c 0x1F) || c == 0xFFFE || c == 0xFFFF
 
 -- a character of the title as XML text: one that would be markup by its name, a barred one as a space
-unfoldable pub escaped : ℕ → List ℕ
-escaped c =
+unfoldable pub xml_escaped : ℕ → List ℕ
+xml_escaped c =
     if c == byte "&" then codes "&amp;" else (
     if c == byte "<" then codes "&lt;" else (
     if c == byte ">" then codes "&gt;" else (
@@ -131,7 +131,7 @@ opening width height =
 
 -- the title, above the marks
 abbrev pub heading : List ℕ → List ℕ
-heading title = codes "<text x=\"10\" y=\"20\">" ++ flat_map escaped (chars title) ++ codes "</text>"
+heading title = codes "<text x=\"10\" y=\"20\">" ++ flat_map xml_escaped (chars title) ++ codes "</text>"
 
 -- the whole text, however long
 abbrev pub plot_text : Plot → ℕ → ℕ → List ℕ → List ℤ → List ℕ
@@ -162,7 +162,7 @@ text_of_numbers plot width height title (Some zs) = text_of_sides plot (side_of 
 -- text's length
 abbrev pub svg_text : Plot → Value → Value → Value → Value → Result (List ℕ) Failure
 svg_text plot (v.Int width) (v.Int height) (v.Text title) list =
-    text_of_numbers plot width height title (numbers_of list)
+    text_of_numbers plot width height title (number_list list)
 svg_text plot _ _ _ _ = Err WrongKind
 
 abbrev pub plot_outcome : Result (List ℕ) Failure → Outcome

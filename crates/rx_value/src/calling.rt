@@ -1,6 +1,6 @@
 ghost use Rattle.std.specs.Prelude.{◌≡◌, ◌∷◌, [], length, IfOk, IsTrue};
 ghost use Rattle.rx_value.specs.Functions.{takes_arguments, function_result, of_list, list_outcome, joined_numbers, text_outcome, joined_texts, number_found, item_of, sum_of, least_of, greatest_of, sequence_of, characters_of, as_number, is_null};
-ghost use Rattle.rx_value.specs.Numbers.{numbers_of};
+ghost use Rattle.rx_value.specs.Numbers.{number_list};
 ghost use Rattle.rx_value.specs.Operators.{number_outcome};
 
 use crate::arithmetic::number_outcome;
@@ -59,7 +59,7 @@ fn number_found(alloc: Global, number: Option<i64>) -> Result<Outcome, Memory>
 }
 
 fn item_of(alloc: Global, list: &Value, place: &Value) -> Result<Outcome, Memory>
-    ensures { IfOk result (λ outcome. outcome ≡ item_of (numbers_of list.now) place.now) }
+    ensures { IfOk result (λ outcome. outcome ≡ item_of (number_list list.now) place.now) }
 {
     let Some(numbers) = list.numbers() else {
         return Failure::WrongKind.outcome(alloc);
@@ -71,7 +71,7 @@ fn item_of(alloc: Global, list: &Value, place: &Value) -> Result<Outcome, Memory
 }
 
 fn sum(alloc: Global, list: &Value) -> Result<Outcome, Memory>
-    ensures { IfOk result (λ outcome. outcome ≡ of_list (λ zs. number_outcome (sum_of zs)) (numbers_of list.now)) }
+    ensures { IfOk result (λ outcome. outcome ≡ of_list (λ zs. number_outcome (sum_of zs)) (number_list list.now)) }
 {
     match list.numbers() {
         Some(numbers) => number_outcome(alloc, sum_of(numbers)),
@@ -80,7 +80,7 @@ fn sum(alloc: Global, list: &Value) -> Result<Outcome, Memory>
 }
 
 fn least(alloc: Global, list: &Value) -> Result<Outcome, Memory>
-    ensures { IfOk result (λ outcome. outcome ≡ of_list (λ zs. number_found (least_of zs)) (numbers_of list.now)) }
+    ensures { IfOk result (λ outcome. outcome ≡ of_list (λ zs. number_found (least_of zs)) (number_list list.now)) }
 {
     match list.numbers() {
         Some(numbers) => number_found(alloc, least_of(numbers)),
@@ -89,7 +89,7 @@ fn least(alloc: Global, list: &Value) -> Result<Outcome, Memory>
 }
 
 fn greatest(alloc: Global, list: &Value) -> Result<Outcome, Memory>
-    ensures { IfOk result (λ outcome. outcome ≡ of_list (λ zs. number_found (greatest_of zs)) (numbers_of list.now)) }
+    ensures { IfOk result (λ outcome. outcome ≡ of_list (λ zs. number_found (greatest_of zs)) (number_list list.now)) }
 {
     match list.numbers() {
         Some(numbers) => number_found(alloc, greatest_of(numbers)),

@@ -2,7 +2,7 @@ ghost use Rattle.std.specs.Prelude.{◌≡◌, ◌≤◌, ◌<◌, ◌++◌, ◌
 ghost use Rattle.std.specs.Prelude.{◌≤ℤ◌, ◌^◌};
 ghost use Rattle.std.specs.Int.{int_min, int_max};
 ghost use Rattle.std.specs.List.{list_all};
-ghost use Rattle.rx_value.specs.Numbers.{numbers_of};
+ghost use Rattle.rx_value.specs.Numbers.{number_list};
 ghost use Rattle.rx_value.specs.Functions.{is_list, all_numbers, length_of, number_at, sum_of, least_of, greatest_of, numbers_from, count_between};
 
 use crate::limits::LIST_LIMIT;

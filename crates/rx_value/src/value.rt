@@ -1,6 +1,6 @@
 ghost use Rattle.std.specs.Prelude.{◌≡◌, ◌↔◌, IfOk, IsTrue, MatchOption, None, Some};
 ghost use Rattle.rx_value.specs.Value.{value_eq, ints_eq};
-ghost use Rattle.rx_value.specs.Numbers.{numbers_of};
+ghost use Rattle.rx_value.specs.Numbers.{number_list};
 ghost use Rattle.rx_value.specs.Truth.{is_truthy};
 
 use crate::list::RxInts;
@@ -70,7 +70,7 @@ impl Value {
     /// The numbers that the value gives where a list is asked for: a list its numbers, NULL none, a
     /// number itself. No other kind is a list.
     pub fn numbers(&self) -> Option<&[i64]>
-        ensures { MatchOption result (numbers_of self.now ≡ None) (λ numbers. numbers_of self.now ≡ Some numbers.now) }
+        ensures { MatchOption result (number_list self.now ≡ None) (λ numbers. number_list self.now ≡ Some numbers.now) }
     {
         match self {
             Value::Null => Some(&[]),

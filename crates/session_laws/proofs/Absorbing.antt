@@ -52,7 +52,7 @@ anyone_closed app M j h dead = every_all (OfRead (IsReadOf Anyone)) anyone_asked
 abbrev pub AliveIn : SessionState → ℕ → Type 0
 AliveIn N j = is_alive (reader_state N j) ≡ true
 
-read_alive : (N : SessionState) (r : Read) → IsAliveRead N r → IsReadOf (AliveIn N) r
+pub read_alive : (N : SessionState) (r : Read) → IsAliveRead N r → IsReadOf (AliveIn N) r
 read_alive N (read.Expr m) h = h
 read_alive N (read.Input s) h = tt
 read_alive N (read.Value s) h = tt

@@ -29,9 +29,9 @@ use Rattle.app_laws.proofs.KnownLists.{known_fixed}
 use Rattle.session_laws.proofs.Staying.{alive_by, alive_now, asked_low}
 use Rattle.session_laws.proofs.Moving.{not_both}
 use Rattle.session_laws.proofs.Walking.{expression_of}
-use Rattle.session_laws.proofs.Quiet.{Follows, IsLiveRead, quiet_evaluation, quiet_sources, asked_live}
+use Rattle.session_laws.proofs.Quiet.{Follows, IsLiveRead, quiet_evaluation, quiet_answers, quiet_sources, asked_live}
 
-map_size : {A B : Type 0} (f : A → B) (xs : List A) → length (map f xs) ≡ length xs
+pub map_size : {A B : Type 0} (f : A → B) (xs : List A) → length (map f xs) ≡ length xs
 map_size f [] = refl
 map_size f (x ∷ xs) = ap suc (map_size f xs)
 
@@ -168,6 +168,11 @@ module _ (app : Shape) (orderly : IsOrderly app) (covered : (n : ℕ) → is_cov
   -- who stays alive gives the same
   pub unchanged : (n : ℕ) (i : Node) → reader app n ≡ Some i → is_evaluated i ≡ true → Live n → evaluation_now app N n ≡ evaluation_now app M n
   unchanged n i is e l = quiet_evaluation app orderly covered M.values N.values (sites_now app M) (sites_now app N) Q equal Live given same_sites closed n i is e l (quiet_here n i is e l)
+
+  -- and is answered the same
+  pub unchanged_answers : (n : ℕ) (i : Node) → reader app n ≡ Some i → is_evaluated i ≡ true → Live n
+      → EveryRead (λ r. answer_to app M.values (known_now app M) r ≡ answer_to app N.values (known_now app N) r) (evaluation_now app M n).asked
+  unchanged_answers n i is e l = quiet_answers app orderly covered M.values N.values (sites_now app M) (sites_now app N) Q equal Live given same_sites closed n i is e l (quiet_here n i is e l)
 
   sound_there : (n : ℕ) (i : Node) → reader app n ≡ Some i → is_evaluated i ≡ true → Live n → IsSoundAt app N n
   sound_there n i is e l = record {

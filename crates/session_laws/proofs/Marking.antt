@@ -42,30 +42,30 @@ set_twice (z ∷ xs) zero x y = refl
 set_twice (z ∷ xs) (suc n) x y = ap (λ l. z ∷ l) (set_twice xs n x y)
 
 module _ (app : Shape) (orderly : IsOrderly app) (covered : (n : ℕ) → is_covered app n ≡ true) (n : ℕ) (i : Node) (is : reader app n ≡ Some i) (output : is_output i ≡ true) (M : SessionState) (sound : IsSound app M) where
-  abbrev marked : ReaderState
+  abbrev pub marked : ReaderState
   marked = record (reader_state M n) { dependencies = stale_dependencies (reader_state M n).dependencies }
 
   -- M with the output marked
-  abbrev N : SessionState
+  abbrev pub N : SessionState
   N = with_reader n marked M
 
   inside : n < length M.readers
   inside = let at = get_in (readers app) n i is in let size = sound.size in omega (at, size, arith)
 
-  here : reader_state N n ≡ marked
+  pub here : reader_state N n ≡ marked
   here = state_here M n marked inside
 
-  there : (m : ℕ) → m ≢ n → reader_state N m ≡ reader_state M m
+  pub there : (m : ℕ) → m ≢ n → reader_state N m ≡ reader_state M m
   there m d = state_there M n m marked d
 
-  dead : is_alive (reader_state N n) ≡ false
+  pub dead : is_alive (reader_state N n) ≡ false
   dead = ap is_alive here ∙ stale_dead (reader_state M n).dependencies
 
   -- no expression is the output
   apart : (m : ℕ) → is_expression_at (reader app m) ≡ true → m ≢ n
   apart m x q = not_both (subst (λ z. is_expression_at (reader app z) ≡ true) q x) (ap is_expression_at is ∙ no_expression i output)
 
-  same : Same app M N
+  pub same : Same app M N
   same = same_readers app M N refl (λ m x. alike_eq (there m (apart m x)))
 
   keeps : KeepsAlive app M N
@@ -77,7 +77,7 @@ module _ (app : Shape) (orderly : IsOrderly app) (covered : (n : ℕ) → is_cov
     | inr p ↦ alike_eq (there m p.1)
   ]
 
-  marked_sound : IsSound app N
+  pub marked_sound : IsSound app N
   marked_sound = sound_stays app orderly M N sound same (state_size M n marked) keeps (λ m j js e a. alike_there m a)
 
   -- ---- a run forgets the mark
@@ -94,16 +94,16 @@ module _ (app : Shape) (orderly : IsOrderly app) (covered : (n : ℕ) → is_cov
   abbrev V : ℕ → SessionState → VisitResult
   V = visit_expression app
 
-  stated_same : run_reader app n N ≡ run_reader app n M
+  pub stated_same : run_reader app n N ≡ run_reader app n M
   stated_same = ap (λ b. finished_run app n (read_node app V n (not b) (reader app n) (state_as_run_begins n N))) ran_same ∙ ap (λ s. finished_run app n (read_node app V n (not (has_run (reader_state M n))) (reader app n) s)) forgets
 
-  site_same : open_sites app N n ≡ open_sites app M n
+  pub site_same : open_sites app N n ≡ open_sites app M n
   site_same = funext (λ s. ap (λ b. if b then None else first_sites app n s) ran_same)
 
   answers_same : open_answers app N n ≡ open_answers app M n
   answers_same = (λ j. record { read = answer_to app M.values (same.known j); site = site_same j })
 
-  traced_same : trace app N n ≡ trace app M n
+  pub traced_same : trace app N n ≡ trace app M n
   traced_same = ap (evaluate_node (reader app n)) answers_same
 
   by_trace_same : run_by_trace app V n N ≡ run_by_trace app V n M
@@ -117,7 +117,7 @@ module _ (app : Shape) (orderly : IsOrderly app) (covered : (n : ℕ) → is_cov
   pub any_output_run : run_reader app n M ≡ run_by_trace app V n M
   any_output_run = sym stated_same ∙ output_run app orderly covered n i is output N marked_sound dead ∙ by_trace_same
 
-  leaves : Leaves app orderly (length (readers app)) n N (run_reader app n M).state (run_reader app n M).outcome
+  pub leaves : Leaves app orderly (length (readers app)) n N (run_reader app n M).state (run_reader app n M).outcome
   leaves = subst (λ (r : ReaderRun). Leaves app orderly (length (readers app)) n N r.state r.outcome) stated_same (output_leaves app orderly covered n i is output N marked_sound dead)
 
   pub any_output_sound : IsSound app (run_reader app n M).state

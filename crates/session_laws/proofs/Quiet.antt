@@ -107,6 +107,9 @@ module _ (app : Shape) (orderly : IsOrderly app) (covered : (n : ℕ) → is_cov
           evaluation_by = evaluation_alike (a n) (record { read = answer_to app v' K'; site = S' n }) (reader app n) (same_sites n live)
               (reads_map (IsLow (bound_of app n i)) (λ r. answer_to app v K r ≡ answer_to app v' K' r) (same_answer (bound_of app n i) below) (e n).asked asked_all)
 
+          answers_by : EveryRead (λ r. answer_to app v K r ≡ answer_to app v' K' r) (e n).asked
+          answers_by = reads_map (IsLow (bound_of app n i)) (λ r. answer_to app v K r ≡ answer_to app v' K' r) (same_answer (bound_of app n i) below) (e n).asked asked_all
+
           sources_by : sources_of_reads app K' [] (evaluate_reader app v' S' K' n).outside ≡ sources_of_reads app K [] (e n).outside
           sources_by = ap (λ (x : Evaluation). sources_of_reads app K' [] x.outside) evaluation_by
               ∙ sym (sources_alike app K K' (e n).outside (outside_of app orderly n i is (a n) (λ r. sources_of_read app K r ≡ sources_of_read app K' r)
@@ -133,6 +136,11 @@ module _ (app : Shape) (orderly : IsOrderly app) (covered : (n : ℕ) → is_cov
 
       pub quiet_evaluation : (n : ℕ) (i : Node) → reader app n ≡ Some i → is_evaluated i ≡ true → Live n → Every Q (sources_of_reads app K [] (e n).outside) → evaluate_reader app v' S' K' n ≡ e n
       quiet_evaluation n i is evaluated live quiet = evaluation_by n i is evaluated live quiet (below_all n i)
+
+      -- and each read of it is answered alike
+      pub quiet_answers : (n : ℕ) (i : Node) → reader app n ≡ Some i → is_evaluated i ≡ true → Live n → Every Q (sources_of_reads app K [] (e n).outside)
+          → EveryRead (λ r. answer_to app v K r ≡ answer_to app v' K' r) (e n).asked
+      quiet_answers n i is evaluated live quiet = answers_by n i is evaluated live quiet (below_all n i)
 
       pub quiet_sources : (n : ℕ) (i : Node) → reader app n ≡ Some i → is_evaluated i ≡ true → Live n → Every Q (sources_of_reads app K [] (e n).outside)
           → sources_of_reads app K' [] (evaluate_reader app v' S' K' n).outside ≡ sources_of_reads app K [] (e n).outside

@@ -40,7 +40,7 @@ observer_alone (plot name shown) h = cc
 observer_alone (observe name priority block) h = refl
 observer_alone (on name priority flags e block) h = refl
 
-same_node : {i j : Node} {o : Option Node} → o ≡ Some i → o ≡ Some j → i ≡ j
+pub same_node : {i j : Node} {o : Option Node} → o ≡ Some i → o ≡ Some j → i ≡ j
 same_node p q = cc
 
 -- what is written is there, or nothing was written

@@ -23,7 +23,7 @@ journal_is_consistent app p journal = sound_consistent app (orderly app p) (stat
 
 -- ---- what is known to be depended on
 
-same_itself : (d : Dependence) → IsSameDependence d d
+pub same_itself : (d : Dependence) → IsSameDependence d d
 same_itself never_run = tt
 same_itself stale = tt
 same_itself (alive sources) = λ s. refl
@@ -42,7 +42,7 @@ live_by (Some d) r h = marked d.changed
     marked true = refl
     marked false = refl
 
-live_is : (r : ReaderState) → is_live (dependence_of r.dependencies) ≡ is_alive r
+pub live_is : (r : ReaderState) → is_live (dependence_of r.dependencies) ≡ is_alive r
 live_is r = live_by r.dependencies r refl
 
 -- ---- the session that keeps all

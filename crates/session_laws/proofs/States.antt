@@ -7,19 +7,19 @@ use Rattle.session_model.specs.declared.state.ReaderState.{ReaderState}
 use Rattle.session_model.specs.State.{SessionState, first_reader, isolated_of, reader_state, with_reader}
 use Rattle.session_laws.specs.Now.{kept_site}
 
-set_here : {A : Type 0} (xs : List A) (n : ℕ) (x : A) → n < length xs → slice_get (slice_set xs n x) n ≡ Some x
+pub set_here : {A : Type 0} (xs : List A) (n : ℕ) (x : A) → n < length xs → slice_get (slice_set xs n x) n ≡ Some x
 set_here [] n x h = absurd (omega (h, arith))
 set_here (y ∷ xs) zero x h = refl
 set_here (y ∷ xs) (suc n) x h = set_here xs n x (omega (h, arith))
 
-set_there : {A : Type 0} (xs : List A) (n m : ℕ) (x : A) → m ≢ n → slice_get (slice_set xs n x) m ≡ slice_get xs m
+pub set_there : {A : Type 0} (xs : List A) (n m : ℕ) (x : A) → m ≢ n → slice_get (slice_set xs n x) m ≡ slice_get xs m
 set_there [] n m x h = refl
 set_there (y ∷ xs) zero zero x h = absurd (h refl)
 set_there (y ∷ xs) zero (suc m) x h = refl
 set_there (y ∷ xs) (suc n) zero x h = refl
 set_there (y ∷ xs) (suc n) (suc m) x h = set_there xs n m x (λ e. h (ap suc e))
 
-set_size : {A : Type 0} (xs : List A) (n : ℕ) (x : A) → length (slice_set xs n x) ≡ length xs
+pub set_size : {A : Type 0} (xs : List A) (n : ℕ) (x : A) → length (slice_set xs n x) ≡ length xs
 set_size [] n x = refl
 set_size (y ∷ xs) zero x = refl
 set_size (y ∷ xs) (suc n) x = ap suc (set_size xs n x)
@@ -33,7 +33,7 @@ state_there state n m r h = ap (λ x. unwrap_or x first_reader) (set_there state
 pub state_size : (state : SessionState) (n : ℕ) (r : ReaderState) → length (with_reader n r state).readers ≡ length state.readers
 state_size state n r = set_size state.readers n r
 
-get_mapped : {A B : Type 0} (f : A → B) (d : A) (xs : List A) (n : ℕ) → unwrap_or (slice_get (map f xs) n) (f d) ≡ f (unwrap_or (slice_get xs n) d)
+pub get_mapped : {A B : Type 0} (f : A → B) (d : A) (xs : List A) (n : ℕ) → unwrap_or (slice_get (map f xs) n) (f d) ≡ f (unwrap_or (slice_get xs n) d)
 get_mapped f d [] n = refl
 get_mapped f d (x ∷ xs) zero = refl
 get_mapped f d (x ∷ xs) (suc n) = get_mapped f d xs n

@@ -6,7 +6,7 @@ use Rattle.rx_value.specs.declared.value.Value.{Value}
 use Rattle.rx_value.specs.declared.value.Value.TheVariants as v
 use Rattle.rx_value.specs.declared.outcome.Outcome.{Outcome}
 use Rattle.rx_value.specs.declared.outcome.Outcome.TheVariants as outcome
-use Rattle.rx_value.specs.Numbers.{numbers_of}
+use Rattle.rx_value.specs.Numbers.{number_list}
 use Rattle.rx_value.specs.Operators.{unary_result, binary_result}
 use Rattle.app_tree.specs.declared.term.Read.{Read}
 use Rattle.app_tree.specs.declared.term.Read.TheVariants as read
@@ -197,7 +197,7 @@ module _ (app : Shape) (manner : Manner) (a : Answers) (Low : Read → Type 0) (
           (λ x. both (read_term app manner start args) (evaluate start a args) _ _ (term_through start m d.1.0 second (omega (i, arith)) (omega (j, arith)) args) (asked_of start m d.1.0 second args)
           (λ y. each_of (λ c z. read_term app manner body (args ++ c ∷ v.Int z ∷ [])) (λ c z. evaluate body a (args ++ c ∷ v.Int z ∷ []))
           (λ c z. term_through body k (bare_numbered body k none) last (omega (i, arith)) (omega (j, none, arith)) (args ++ c ∷ v.Int z ∷ []))
-          (λ c z. asked_of body k (bare_numbered body k none) last (args ++ c ∷ v.Int z ∷ [])) y (numbers_of x)))
+          (λ c z. asked_of body k (bare_numbered body k none) last (args ++ c ∷ v.Int z ∷ [])) y (number_list x)))
       term_through (unary op t) n d q i j args = ends (read_term app manner t args) (evaluate t a args) (λ x. unary_result op x) (term_through t n d q i j args) (asked_of t n d q args)
       term_through (binary op l t) n d q i j args =
           let m : ℕ = n + site_count l in

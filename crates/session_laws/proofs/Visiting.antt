@@ -63,7 +63,7 @@ module _ (app : Shape) (P : ℕ → Type 0) where
   pub leads_keeps : (M N : SessionState) → Leads M N → (j : ℕ) → is_alive (reader_state M j) ≡ true → is_alive (reader_state N j) ≡ true
   leads_keeps M N l j a = elim (l.each j) [ inl e ↦ ap is_alive e ∙ a | inr r ↦ ap is_alive r.1.is ]
 
-  by_trace_same : (M N : SessionState) → Same app M N → (j : ℕ) → reader_state N j ≡ reader_state M j → reader_by_trace app N j ≡ reader_by_trace app M j
+  pub by_trace_same : (M N : SessionState) → Same app M N → (j : ℕ) → reader_state N j ≡ reader_state M j → reader_by_trace app N j ≡ reader_by_trace app M j
   by_trace_same M N p j q =
       let t : trace app N j ≡ trace app M j = trace_same app p j (ap (λ (r : ReaderState). r.dependencies) q) in
       let o : open_sites app N j ≡ open_sites app M j = open_same app j (reader_state M j) (reader_state N j) (ap (λ (r : ReaderState). r.dependencies) q) in
@@ -72,7 +72,7 @@ module _ (app : Shape) (P : ℕ → Type 0) where
         isolated = recorded (o z) (t z).asked;
       })
 
-  becomes_trans : (M N O : SessionState) → Same app M N → ((j : ℕ) → is_alive (reader_state N j) ≡ true → is_alive (reader_state O j) ≡ true) → (j : ℕ) → BecomesAt M N j → BecomesAt N O j → BecomesAt M O j
+  pub becomes_trans : (M N O : SessionState) → Same app M N → ((j : ℕ) → is_alive (reader_state N j) ≡ true → is_alive (reader_state O j) ≡ true) → (j : ℕ) → BecomesAt M N j → BecomesAt N O j → BecomesAt M O j
   becomes_trans M N O p k j (inl d) (inl e) = inl (e ∙ d)
   becomes_trans M N O p k j (inr r) (inl e) = inr (r.0, record { was = r.1.was; is = e ∙ r.1.is; asks = alive_reads N O k (trace app M j).asked r.1.asks })
   becomes_trans M N O p k j (inl d) (inr s) = inr (

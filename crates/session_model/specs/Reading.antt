@@ -9,7 +9,7 @@ use Rattle.rx_value.specs.declared.outcome.Outcome.{Outcome}
 use Rattle.rx_value.specs.declared.outcome.Outcome.TheVariants.{Val}
 use Rattle.rx_value.specs.declared.failure.Failure.TheVariants.{WrongKind, NotACondition}
 use Rattle.rx_value.specs.Failure.{failure_outcome}
-use Rattle.rx_value.specs.Numbers.{numbers_of}
+use Rattle.rx_value.specs.Numbers.{number_list}
 use Rattle.rx_value.specs.Operators.{unary_result, binary_result}
 use Rattle.app_tree.specs.declared.term.Read.{Read}
 use Rattle.app_tree.specs.declared.term.Read.TheVariants as read
@@ -131,7 +131,7 @@ abbrev mutual
       go_on (read_term app manner t args state) (λ x. plain_reading (required cancels x))
   read_term app manner (fold list start accumulator element body) args state =
       go_on (read_term app manner list args state) (λ x s. go_on (read_term app manner start args s) (λ y.
-      over_list_in (λ a z. read_term app manner body (args ++ a ∷ v.Int z ∷ [])) y (numbers_of x)))
+      over_list_in (λ a z. read_term app manner body (args ++ a ∷ v.Int z ∷ [])) y (number_list x)))
   read_term app manner (unary op t) args state =
       go_on (read_term app manner t args state) (λ x. plain_reading (unary_result op x))
   read_term app manner (binary op a b) args state =

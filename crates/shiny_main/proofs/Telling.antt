@@ -33,40 +33,33 @@ status_is file e note note_after s tells no_write no_memory = elim tells as (λ 
   | inr lacking ↦ elim lacking.1 as (λ _. s ≡ status_of e) [ inl whole ↦ absurd (no_memory whole.0) | inr front ↦ absurd (no_write front.0) ]
 ]
 
-is_file_fault : (e : Ended) → status_of e ≡ status.FileFault → e ≡ ended.FileFault
-is_file_fault ended.Done i = cc
-is_file_fault ended.WrongWords i = cc
-is_file_fault (ended.AppRefused why) i = cc
-is_file_fault ended.FileAbsent i = cc
-is_file_fault ended.FileFault i = refl
-is_file_fault (ended.BadLine k) i = cc
-is_file_fault (ended.NoSession k) i = cc
-is_file_fault ended.ReadFault i = cc
-is_file_fault ended.WriteFault i = cc
-is_file_fault ended.Memory i = cc
+-- a status that tells a fault of the files, or of the input, tells just that end
+record TellsPort (e : Ended) : Type 0 where
+  file : status_of e ≡ status.FileFault → e ≡ ended.FileFault
+  input : status_of e ≡ status.ReadFault → e ≡ ended.ReadFault
 
-is_read_fault : (e : Ended) → status_of e ≡ status.ReadFault → e ≡ ended.ReadFault
-is_read_fault ended.Done i = cc
-is_read_fault ended.WrongWords i = cc
-is_read_fault (ended.AppRefused why) i = cc
-is_read_fault ended.FileAbsent i = cc
-is_read_fault ended.FileFault i = cc
-is_read_fault (ended.BadLine k) i = cc
-is_read_fault (ended.NoSession k) i = cc
-is_read_fault ended.ReadFault i = refl
-is_read_fault ended.WriteFault i = cc
-is_read_fault ended.Memory i = cc
+tells_port : (e : Ended) → TellsPort e
+tells_port ended.Done = record { file = λ i. cc; input = λ i. cc }
+tells_port ended.WrongWords = record { file = λ i. cc; input = λ i. cc }
+tells_port (ended.AppRefused why) = record { file = λ i. cc; input = λ i. cc }
+tells_port ended.FileAbsent = record { file = λ i. cc; input = λ i. cc }
+tells_port ended.FileFault = record { file = λ i. refl; input = λ i. cc }
+tells_port (ended.BadLine k) = record { file = λ i. cc; input = λ i. cc }
+tells_port (ended.NoSession k) = record { file = λ i. cc; input = λ i. cc }
+tells_port ended.ReadFault = record { file = λ i. cc; input = λ i. refl }
+tells_port ended.WriteFault = record { file = λ i. cc; input = λ i. cc }
+tells_port ended.Memory = record { file = λ i. cc; input = λ i. cc }
 
 -- so a fault of the files or of the input that the status tells is how the work ended
 pub ends_by_file : (file : List ℕ) (e : Ended) (note note_after : Option (List ℕ)) (s : Status) → Tells file e note note_after s
     → s ≡ status.FileFault → e ≡ ended.FileFault
 ends_by_file file e note note_after s tells i =
-    is_file_fault e (sym (status_is file e note note_after s tells (λ w. cc) (λ m. cc)) ∙ i)
+    (tells_port e).file (sym (status_is file e note note_after s tells (λ w. cc) (λ m. cc)) ∙ i)
 
 pub ends_by_read : (file : List ℕ) (e : Ended) (note note_after : Option (List ℕ)) (s : Status) → Tells file e note note_after s
     → s ≡ status.ReadFault → e ≡ ended.ReadFault
 ends_by_read file e note note_after s tells i =
-    is_read_fault e (sym (status_is file e note note_after s tells (λ w. cc) (λ m. cc)) ∙ i)
+    (tells_port e).input (sym (status_is file e note note_after s tells (λ w. cc) (λ m. cc)) ∙ i)
 
 pub is_write_fault : (e : Ended) → status_of e ≡ status.WriteFault → e ≡ ended.WriteFault
 is_write_fault ended.Done i = cc

@@ -3,6 +3,7 @@ use crate::top::run_text;
 use rx_ports::{MemFiles, MemSink, MemSource, RxBytes};
 use rx_value::Memory;
 use std::alloc::{AllocError, Global};
+use std::process::Abort;
 use std::test::Fail;
 
 const COUNTER: &str = "input n = 1;\ntext o { input$n }\n";
@@ -216,50 +217,66 @@ fn files_are_checked_and_printed(rt: HostRuntime) -> Result<(), Fail> {
     Ok(())
 }
 
-/// The other statuses, each with its note and nothing written.
-#[test]
-fn statuses_have_their_causes(rt: HostRuntime) -> Result<(), Fail> {
-    let alloc = rt.alloc();
-    let usage =
-        "usage: check FILE | print FILE | fresh FILE | replay FILE | gen SEED SIZE | serve FILE [options]\n";
-    let cases = [
-        ("fresh", "f", COUNTER, 2, usage),
-        ("Check", "f", COUNTER, 2, usage),
-        ("check", "nofile", COUNTER, 4, "file absent: nofile\n"),
-        ("print", "nofile", COUNTER, 4, "file absent: nofile\n"),
-        ("replay", "nofile", COUNTER, 4, "file absent: nofile\n"),
-        (
-            "check",
-            "f",
-            "input a = 1;\ninput a = 2;\n",
-            3,
-            "app refused: NameTwice a at 19\n",
-        ),
-        (
-            "print",
-            "f",
-            "reactive a { b() }\nreactive b { 1 }\n",
-            3,
-            "app refused: ForwardRead b at 13\n",
-        ),
-        (
-            "replay",
-            "f",
-            "input n = 1",
-            3,
-            "app refused: Unexpected at 11\n",
-        ),
-        (
-            "replay",
-            "f",
-            "input n = 1;\nreactive e { input$n }\n",
-            3,
-            "app refused: NotYet e at 0\n",
-        ),
-    ];
+const USAGE: &str =
+    "usage: check FILE | print FILE | fresh FILE | replay FILE | gen SEED SIZE | serve FILE [options]\n";
+
+/// A command, its file, the file's text, and the status and the note that it ends with.
+type Refused = (&'static str, &'static str, &'static str, u8, &'static str);
+
+const REFUSED: [Refused; 11] = [
+    ("fresh", "f", COUNTER, 2, USAGE),
+    ("Check", "f", COUNTER, 2, USAGE),
+    ("check", "nofile", COUNTER, 4, "file absent: nofile\n"),
+    ("print", "nofile", COUNTER, 4, "file absent: nofile\n"),
+    ("replay", "nofile", COUNTER, 4, "file absent: nofile\n"),
+    (
+        "check",
+        "f",
+        "input a = 1;\ninput a = 2;\n",
+        3,
+        "app refused: NameTwice a at 19\n",
+    ),
+    (
+        "print",
+        "f",
+        "reactive a { b() }\nreactive b { 1 }\n",
+        3,
+        "app refused: ForwardRead b at 13\n",
+    ),
+    (
+        "check",
+        "f",
+        "input a = TRUE;\ninput b = 1;\ninput d = 2;\ntext o cache (input$a, input$b) { if (input$a) input$b else input$d }\n",
+        3,
+        "app refused: Uncovered o input$d at 47\n",
+    ),
+    (
+        "print",
+        "f",
+        "input b = 1;\ntext o cache (input$b) { isolate(input$b) }\n",
+        3,
+        "app refused: IsolateInCached o at 18\n",
+    ),
+    (
+        "replay",
+        "f",
+        "input n = 1",
+        3,
+        "app refused: Unexpected at 11\n",
+    ),
+    (
+        "replay",
+        "f",
+        "input n = 1;\nreactive e { input$n }\n",
+        3,
+        "app refused: NotYet e at 0\n",
+    ),
+];
+
+fn compare_refused(rt: &impl Abort, alloc: Global, cases: &[Refused]) -> Result<(), Memory> {
     for (command, file, app, number, note) in cases {
-        let ran = runs(alloc, command, file, app, &NONE_FAILS)?;
-        assert_eq!(rt; ran.status.number(), number, "{command} {file} {app:?}");
+        let ran = runs(alloc, *command, *file, *app, &NONE_FAILS)?;
+        assert_eq!(rt; ran.status.number(), *number, "{command} {file} {app:?}");
         assert_eq!(rt; ran.output.len(), 0, "{command} {file} {app:?}");
         assert_eq!(rt;
             ran.note.as_slice(),
@@ -267,6 +284,13 @@ fn statuses_have_their_causes(rt: HostRuntime) -> Result<(), Fail> {
             "{command} {file} {app:?}"
         );
     }
+    Ok(())
+}
+
+/// The other statuses, each with its note and nothing written.
+#[test]
+fn statuses_have_their_causes(rt: HostRuntime) -> Result<(), Fail> {
+    compare_refused(&rt, rt.alloc(), &REFUSED)?;
     Ok(())
 }
 

@@ -3,7 +3,7 @@
 ghost use Rattle.std.specs.Prelude.{◌≡◌, ◌++◌, ◌≤◌, length, OnOk, MatchResult};
 ghost use Rattle.std.specs.List.{flat_map};
 ghost use Rattle.std.specs.Str.{chars};
-ghost use Rattle.rx_value.specs.Plot.{escaped, heading};
+ghost use Rattle.rx_value.specs.Plot.{xml_escaped, heading};
 ghost use Rattle.svg_plot.specs.inner.Answers.{IsTooLongOrMemory, Writes};
 
 use crate::error::PlotError;
@@ -30,9 +30,9 @@ pub fn put(text: &mut RxText, piece: &str) -> Result<(), PlotError>
 
 /// A character that would be markup is written by its name, and one that XML 1.0 has no place for
 /// as a space.
-#[tactic(auto, unfolding(rx_value::specs::Plot::escaped))]
+#[tactic(auto, unfolding(rx_value::specs::Plot::xml_escaped))]
 fn push_escaped(character: char, text: &mut RxText) -> Result<(), Memory>
-    ensures { OnOk result (text.new ≡ text.old ++ escaped character) }
+    ensures { OnOk result (text.new ≡ text.old ++ xml_escaped character) }
 {
     match character {
         '&' => text.push_str("&amp;"),
@@ -47,7 +47,7 @@ fn push_escaped(character: char, text: &mut RxText) -> Result<(), Memory>
 }
 
 fn put_escaped(character: char, text: &mut RxText) -> Result<(), PlotError>
-    ensures { Writes text.old (escaped character) text.new result }
+    ensures { Writes text.old (xml_escaped character) text.new result }
 {
     push_escaped(character, text)?;
     limit(text)
@@ -55,7 +55,7 @@ fn put_escaped(character: char, text: &mut RxText) -> Result<(), PlotError>
 
 /// A title may be of any length, so each character is held against the limit.
 fn put_all_escaped(title: &str, text: &mut RxText) -> Result<(), PlotError>
-    ensures { Writes text.old (flat_map escaped (chars title.now)) text.new result }
+    ensures { Writes text.old (flat_map xml_escaped (chars title.now)) text.new result }
 {
     for character in title.chars() {
         put_escaped(character, text)?;

@@ -93,104 +93,114 @@ fn writes_the_texts_round_runs(rt: HostRuntime) -> Result<(), Fail> {
     Ok(())
 }
 
-#[test]
-fn writes_values_and_errors(rt: HostRuntime) -> Result<(), Fail> {
-    let one = Run::Gives("1");
-    let rows: [(&[(&str, bool, Run)], &str); 16] = [
-        (&[], r#""errors":{},"inputMessages":[],"values":{}"#),
-        (
-            &[("o", false, one)],
-            r#""errors":{},"inputMessages":[],"values":{"o":"1"}"#,
-        ),
-        (
-            &[
-                ("b", false, Run::Gives("'x")),
-                ("a", false, Run::Gives("NULL")),
-                ("B", false, Run::Gives("TRUE")),
-                ("aa", false, Run::Gives("c 1 -2")),
-            ],
-            r#""errors":{},"inputMessages":[],"values":{"B":"TRUE","a":"","aa":"1 -2","b":"x"}"#,
-        ),
-        (
-            &[("o2", false, Run::Stops)],
-            r#""errors":{"o2":{"message":"","type":["shiny.silent.error"]}},"inputMessages":[],"values":{}"#,
-        ),
-        (
-            &[("p", true, Run::Fails("division by zero"))],
-            r#""errors":{"p":{"message":"division by zero"}},"inputMessages":[],"values":{}"#,
-        ),
-        (
-            &[("o", false, Run::Cancels), ("p", true, Run::Waits)],
-            r#""errors":{},"inputMessages":[],"values":{}"#,
-        ),
-        (
-            &[("p", true, Run::Gives("'hi"))],
-            r#""errors":{},"inputMessages":[],"values":{"p":{"src":"data:image/svg+xml;base64,aGk="}}"#,
-        ),
-        (
-            &[("p", true, Run::Gives("NULL"))],
-            r#""errors":{},"inputMessages":[],"values":{"p":null}"#,
-        ),
-        (
-            &[("p", true, one)],
-            r#""errors":{"p":{"message":"wrong kind of value"}},"inputMessages":[],"values":{}"#,
-        ),
-        (
-            &[("p", true, Run::Gives("FALSE"))],
-            r#""errors":{"p":{"message":"wrong kind of value"}},"inputMessages":[],"values":{}"#,
-        ),
-        (
-            &[("o", false, one), ("o", false, Run::Gives("2"))],
-            r#""errors":{},"inputMessages":[],"values":{"o":"2"}"#,
-        ),
-        (
-            &[
-                ("o", false, one),
-                ("q", false, one),
-                ("o", false, Run::Fails("x")),
-            ],
-            r#""errors":{"o":{"message":"x"}},"inputMessages":[],"values":{"q":"1"}"#,
-        ),
-        (
-            &[
-                ("o", false, Run::Fails("x")),
-                ("q", false, Run::Fails("y")),
-                ("o", false, one),
-            ],
-            r#""errors":{"q":{"message":"y"}},"inputMessages":[],"values":{"o":"1"}"#,
-        ),
-        (
-            &[
-                ("o", false, one),
-                ("o", false, Run::Cancels),
-                ("q", false, Run::Stops),
-                ("q", false, Run::Waits),
-            ],
-            r#""errors":{"q":{"message":"","type":["shiny.silent.error"]}},"inputMessages":[],"values":{"o":"1"}"#,
-        ),
-        (
-            &[
-                ("o", false, Run::Fails("x")),
-                ("o", false, one),
-                ("o", false, Run::Stops),
-                ("o", false, one),
-            ],
-            r#""errors":{},"inputMessages":[],"values":{"o":"1"}"#,
-        ),
-        (
-            &[("a\"\\é", false, Run::Gives("'1\n\u{1}/<é"))],
-            r#""errors":{},"inputMessages":[],"values":{"a\"\\é":"1\n\u0001/<é"}"#,
-        ),
-    ];
-    for (runs, want) in rows {
-        let text = batch_text(rt.alloc(), runs, &[])?;
+const ONE: Run = Run::Gives("1");
+
+/// Outputs of a batch, each with its name, whether it is a plot and its outcome.
+type Runs = &'static [(&'static str, bool, Run)];
+
+/// Batches, and what stands of their texts within the braces.
+const BATCHES: [(Runs, &str); 16] = [
+    (&[], r#""errors":{},"inputMessages":[],"values":{}"#),
+    (
+        &[("o", false, ONE)],
+        r#""errors":{},"inputMessages":[],"values":{"o":"1"}"#,
+    ),
+    (
+        &[
+            ("b", false, Run::Gives("'x")),
+            ("a", false, Run::Gives("NULL")),
+            ("B", false, Run::Gives("TRUE")),
+            ("aa", false, Run::Gives("c 1 -2")),
+        ],
+        r#""errors":{},"inputMessages":[],"values":{"B":"TRUE","a":"","aa":"1 -2","b":"x"}"#,
+    ),
+    (
+        &[("o2", false, Run::Stops)],
+        r#""errors":{"o2":{"message":"","type":["shiny.silent.error"]}},"inputMessages":[],"values":{}"#,
+    ),
+    (
+        &[("p", true, Run::Fails("division by zero"))],
+        r#""errors":{"p":{"message":"division by zero"}},"inputMessages":[],"values":{}"#,
+    ),
+    (
+        &[("o", false, Run::Cancels), ("p", true, Run::Waits)],
+        r#""errors":{},"inputMessages":[],"values":{}"#,
+    ),
+    (
+        &[("p", true, Run::Gives("'hi"))],
+        r#""errors":{},"inputMessages":[],"values":{"p":{"src":"data:image/svg+xml;base64,aGk="}}"#,
+    ),
+    (
+        &[("p", true, Run::Gives("NULL"))],
+        r#""errors":{},"inputMessages":[],"values":{"p":null}"#,
+    ),
+    (
+        &[("p", true, ONE)],
+        r#""errors":{"p":{"message":"wrong kind of value"}},"inputMessages":[],"values":{}"#,
+    ),
+    (
+        &[("p", true, Run::Gives("FALSE"))],
+        r#""errors":{"p":{"message":"wrong kind of value"}},"inputMessages":[],"values":{}"#,
+    ),
+    (
+        &[("o", false, ONE), ("o", false, Run::Gives("2"))],
+        r#""errors":{},"inputMessages":[],"values":{"o":"2"}"#,
+    ),
+    (
+        &[
+            ("o", false, ONE),
+            ("q", false, ONE),
+            ("o", false, Run::Fails("x")),
+        ],
+        r#""errors":{"o":{"message":"x"}},"inputMessages":[],"values":{"q":"1"}"#,
+    ),
+    (
+        &[
+            ("o", false, Run::Fails("x")),
+            ("q", false, Run::Fails("y")),
+            ("o", false, ONE),
+        ],
+        r#""errors":{"q":{"message":"y"}},"inputMessages":[],"values":{"o":"1"}"#,
+    ),
+    (
+        &[
+            ("o", false, ONE),
+            ("o", false, Run::Cancels),
+            ("q", false, Run::Stops),
+            ("q", false, Run::Waits),
+        ],
+        r#""errors":{"q":{"message":"","type":["shiny.silent.error"]}},"inputMessages":[],"values":{"o":"1"}"#,
+    ),
+    (
+        &[
+            ("o", false, Run::Fails("x")),
+            ("o", false, ONE),
+            ("o", false, Run::Stops),
+            ("o", false, ONE),
+        ],
+        r#""errors":{},"inputMessages":[],"values":{"o":"1"}"#,
+    ),
+    (
+        &[("a\"\\é", false, Run::Gives("'1\n\u{1}/<é"))],
+        r#""errors":{},"inputMessages":[],"values":{"a\"\\é":"1\n\u0001/<é"}"#,
+    ),
+];
+
+fn compare_batches(rt: &impl Abort, alloc: Global, batches: &[(Runs, &str)]) -> Result<(), Fail> {
+    for (runs, want) in batches {
+        let text = batch_text(alloc, *runs, &[])?;
         let inside = text
             .as_str()
             .strip_prefix("{")
             .and_then(|t| t.strip_suffix("}"));
-        assert_eq!(rt; inside.ok_or("an object")?, want);
+        assert_eq!(rt; inside.ok_or("an object")?, *want);
     }
     Ok(())
+}
+
+#[test]
+fn writes_values_and_errors(rt: HostRuntime) -> Result<(), Fail> {
+    compare_batches(&rt, rt.alloc(), &BATCHES)
 }
 
 #[test]

@@ -1,5 +1,5 @@
 -- The parameters of a task, as the code has them.
-use Rattle.std.specs.Prelude.{◌≡◌, ⊤, ℕ, List, [], map, take, length, Option, Some, None, nat_le, if◌then◌else◌}
+use Rattle.std.specs.Prelude.{◌≡◌, ℕ, List, [], map, take, length, Option, Some, None, unwrap_or, nat_le, if◌then◌else◌}
 use Rattle.std.specs.Borrow.{Bor}
 use Rattle.std.specs.BTreeMap.{BTreeMap}
 use Rattle.app_tree.specs.declared.draft_term.Name.{Name}
@@ -21,10 +21,9 @@ HasPlaces places names = (name : List ℕ) → by_name places name ≡ innermost
 abbrev pub AreRepeated : List (Bor Name) → List Name → Type 0
 AreRepeated repeated names = refused_names repeated ≡ repeated_names [] names
 
--- where there are parameters, they are the first of these variables
+-- the parameters, none where there are none, are the first of these variables
 abbrev pub StandFirst : Option (List Name) → List (List ℕ) → Type 0
-StandFirst None variables = ⊤
-StandFirst (Some names) variables = map text_of_name names ≡ take (length names) variables
+StandFirst names variables = map text_of_name (unwrap_or names []) ≡ take (length (unwrap_or names [])) variables
 
 -- the parameters, where so many variables have all of them
 abbrev pub kept_parameters : ℕ → Option (List Name) → Option (List Name)

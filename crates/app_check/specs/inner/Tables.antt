@@ -1,5 +1,5 @@
 -- What an item declares, and declarations that are found.
-use Rattle.std.specs.Prelude.{ℕ, Bool, false, not, nat_eq, nat_lt, List, Option, Some, None}
+use Rattle.std.specs.Prelude.{ℕ, Bool, false, not, nat_eq, nat_lt, Option, Some, None}
 use Rattle.app_tree.specs.Declarations.{Declared}
 use Rattle.app_check.specs.declared.table.Declaration.{Declaration}
 use Rattle.app_check.specs.declared.table.Entry.{Entry}

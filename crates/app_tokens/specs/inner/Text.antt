@@ -3,7 +3,7 @@ use Rattle.std.specs.Prelude.{ℕ, Bool, not, ◌||◌, List, [], ◌∷◌, Opt
 use Rattle.std.specs.Str.{byte}
 use Rattle.app_tokens.specs.declared.error.TokenError.{TokenError}
 use Rattle.app_tokens.specs.declared.error.TokenError.TheVariants.{BadByte}
-use Rattle.app_tokens.specs.Scan.{cut_off, is_pair, meaning_of}
+use Rattle.app_tokens.specs.Scan.{refusal_at_end, is_pair, meaning_of}
 
 -- a byte of a text that stands for itself
 abbrev pub is_plain : ℕ → Bool
@@ -11,10 +11,10 @@ is_plain b = not (nat_eq b (byte "\"") || nat_eq b (byte "\\") || nat_lt b 32)
 
 -- what follows the plain bytes of a text: a pair, by the byte that it stands for, or none, at the closing quote
 unfoldable pub pair_of : Bool → ℕ → ℕ → List ℕ → Result (Option ℕ) TokenError
-pair_of whole quote place [] = cut_off whole quote place
+pair_of whole quote place [] = refusal_at_end whole quote place
 pair_of whole quote place (b ∷ []) =
     if nat_eq b (byte "\"") then Ok None else (
-    if nat_eq b (byte "\\") then cut_off whole quote place else Err (BadByte place))
+    if nat_eq b (byte "\\") then refusal_at_end whole quote place else Err (BadByte place))
 pair_of whole quote place (b ∷ c ∷ rest) =
     if nat_eq b (byte "\"") then Ok None else (
     if nat_eq b (byte "\\") then (if is_pair c then Ok (Some (meaning_of c)) else Err (BadByte place))

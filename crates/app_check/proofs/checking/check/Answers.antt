@@ -1,22 +1,23 @@
-use Rattle.std.proofs.Common.{◌≡◌, ap, sym, ◌∙◌, map}
+use Rattle.std.proofs.Common.{◌≡◌, ◌∙◌, ap, map}
+use Rattle.app_tree.specs.View.{shape_of}
 use Rattle.app_tree.specs.DraftView.{written_item, draft_shape_of}
-use Rattle.app_tree.specs.View.{node_of}
-use Rattle.app_check.proofs.Accepted.{table_within, draft_passes, draft_stands}
+use Rattle.app_check.proofs.LastChecks.{readers_written, accepted_through, refused_through, refused_first}
 use Rattle.app_check.proofs.checking.check.Goals as goal
 
-pub new-table-requires : goal.new-table-requires
-new-table-requires c = table_within c.in_ok-table.table (map written_item c.as_slice-written.result.now) (c.in_ok-table.ensures {u = tt}) (sym c.in-Ok-None.ensures ∙ c.in-Ok-None.field-0-is)
+pub covered-requires : goal.covered-requires
+covered-requires c =
+    let same : map written_item c.as_slice.result.now ≡ (draft_shape_of c.args.draft.now).items = ap (map written_item) (c.as_slice.ensures ∙ c.items.ensures.items) in
+    readers_written (draft_shape_of c.args.draft.now) (map written_item c.as_slice.result.now) (shape_of c.in-Ok.app) same c.in-Ok.ensures.accepted
 
-pub new-requires-in-Ok-None : goal.new-requires-in-Ok-None
-new-requires-in-Ok-None c =
-    let d = draft_shape_of c.args.draft.now in
-    let items = map written_item c.as_slice-written.result.now in
-    let same : items ≡ d.items = ap (map written_item) (c.as_slice-written.ensures ∙ c.items.ensures.items) in
-    let table = c.in_ok-table.table in
-    let numbered = c.new-table.result in
-    record {
-      draft = d;
-      fits = c.items.ensures.fits;
-      passes = draft_passes d table items same (c.in_ok-table.ensures {u = tt}) (sym c.in-Ok-None.ensures ∙ c.in-Ok-None.field-0-is);
-      stands = draft_stands d numbered items c.budget.result (map node_of c.in_ok-items-in-Ok-None.items) same (c.new-table.ensures ∙ c.in_ok-table.ensures {u = tt}) c.budget.ensures c.in_ok-items-in-Ok-None.ensures;
-    }
+pub returns-in-Ok-clause-accepted : goal.returns-in-Ok-clause-accepted
+returns-in-Ok-clause-accepted c =
+    let same : map written_item c.as_slice.result.now ≡ (draft_shape_of c.args.draft.now).items = ap (map written_item) (c.as_slice.ensures ∙ c.items.ensures.items) in
+    accepted_through (draft_shape_of c.args.draft.now) (map written_item c.as_slice.result.now) (shape_of c.in-Ok.app) c.covered.result same c.in-Ok.ensures.accepted c.covered.ensures.accepted
+
+pub returns-in-Ok-clause-refused : goal.returns-in-Ok-clause-refused
+returns-in-Ok-clause-refused c =
+    let same : map written_item c.as_slice.result.now ≡ (draft_shape_of c.args.draft.now).items = ap (map written_item) (c.as_slice.ensures ∙ c.items.ensures.items) in
+    refused_through (draft_shape_of c.args.draft.now) (map written_item c.as_slice.result.now) (shape_of c.in-Ok.app) c.covered.result same c.in-Ok.ensures.accepted c.covered.ensures.refused
+
+pub returns-in-Err-clause-refused : goal.returns-in-Err-clause-refused
+returns-in-Err-clause-refused c = refused_first (draft_shape_of c.args.draft.now) c.in-Err.error c.in-Err.ensures.refused

@@ -10,8 +10,8 @@ returns-in_err-byte c =
 pub returns-in-None : goal.returns-in-None
 returns-in-None c =
     text_piece-ends c.args.whole c.args.quote c.args.inside.now c.loop-value.value c.push_plain.new.value c.loop-value.rest.now c.in_ok-rest.rest.now
-    c.as_bytes.result.now c.limited.result c.loop-value.invariant.within c.in_ok-rest.ensures.after c.loop-value.invariant.said
-    c.in_ok-rest.ensures.pushed c.as_bytes.ensures.value (rw c.in-None.is at c.in_ok-byte.ensures.said) c.limited.ensures
+    c.as_bytes.result.now c.piece_within_limit.result c.loop-value.invariant.within c.in_ok-rest.ensures.after c.loop-value.invariant.said
+    c.in_ok-rest.ensures.pushed c.as_bytes.ensures.value (rw c.in-None.is at c.in_ok-byte.ensures.said) c.piece_within_limit.ensures
 
 pub loop-value-preserved : goal.loop-value-preserved
 loop-value-preserved c =

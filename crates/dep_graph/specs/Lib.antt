@@ -1,0 +1,5 @@
+pub mod Contexts
+pub mod Conditions
+pub mod SameGraph
+pub mod MarkedReaders
+pub mod inner

@@ -1,0 +1,2 @@
+-- The vocabulary of inner functions and of proofs: no contract of a public item cites it.
+pub mod Phases

@@ -1,0 +1,4 @@
+pub mod Met
+pub mod MetLaws
+pub mod MetExamples
+pub mod inner

@@ -1,0 +1,3 @@
+-- The vocabulary of inner functions and of proofs: no contract of a public item cites it.
+pub mod Walked
+pub mod Walks

@@ -1,0 +1,11 @@
+pub mod ByNumber
+pub mod Standings
+pub mod Seeing
+pub mod Firstly
+pub mod Beginning
+pub mod Finishing
+pub mod Writing
+pub mod Depending
+pub mod StoredRuns
+pub mod Trails
+pub mod Tried

@@ -1,0 +1,5 @@
+pub mod Seen
+pub mod Holding
+pub mod Keeping
+pub mod Marking
+pub mod inner

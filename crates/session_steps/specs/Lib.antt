@@ -1,0 +1,5 @@
+pub mod Keeping
+pub mod Bringing
+pub mod Acting
+pub mod StandLaws
+pub mod BodyLaws
