@@ -8,5 +8,7 @@ pub mod Covering
 pub mod FirstRun
 pub mod CoveredReads
 pub mod Reaching
+pub mod SortCounts
+pub mod OwnSources
 pub mod WellOrdered
 pub mod Keyed

@@ -22,7 +22,10 @@ use Rattle.app_tree.specs.WellFormed.{IsWellFormed}
 use Rattle.app_tree.proofs.NoFaults.{nothing_left, nothing_right, holds_not, all_pass}
 use Rattle.app_tree.proofs.Numbers.{finds}
 use Rattle.app_tree.specs.Trace.{Every}
-use Rattle.app_laws.specs.Orderly.{act_sites, acts_sites, IsNumberedAct, AreNumberedActs, reads_in_act, reads_in_acts, reads_in_node, ReadsBelow, bound_of, IsNumbered, AreNumbered, IsNumberedNode, IsOrderly}
+use Rattle.app_laws.specs.Orderly.{act_sites, acts_sites, IsNumberedAct, AreNumberedActs, reads_in_act, reads_in_acts, reads_in_node, ReadsBelow, ReadsSources, bound_of, IsNumbered, AreNumbered, IsNumberedNode, IsOrderly}
+use Rattle.app_laws.proofs.WhatIsAsked.{every_map}
+use Rattle.app_laws.proofs.SortCounts.{sorts_kept, counted_before}
+use Rattle.app_laws.proofs.OwnSources.{found_own}
 
 some_of : {A : Type 0} (o : Option A) (P : Type 0) → is_none o ≡ false → ((x : A) → o ≡ Some x → P) → P
 some_of None P e f = absurd cc
@@ -238,17 +241,6 @@ form_numbered table k name (draft.on priority flags e block) none =
 
 -- ---- the readers of a draft
 
-sort_kept : (table : List Declared) (name : List ℕ) (f : WrittenForm) → is_reader (resolved_form table name f) ≡ is_reader_sort (sort_of_form f)
-sort_kept table name (draft.input start) = refl
-sort_kept table name (draft.value start) = refl
-sort_kept table name (draft.task parameters body) = refl
-sort_kept table name (draft.reactive keys body) = refl
-sort_kept table name (draft.event flags e body) = refl
-sort_kept table name (draft.text shown) = refl
-sort_kept table name (draft.plot shown) = refl
-sort_kept table name (draft.observe priority block) = refl
-sort_kept table name (draft.on priority flags e block) = refl
-
 -- reader n is what an item stands for that passes the checks, and n readers are declared before it
 record IsOf (table : List Declared) (k : ℕ) (items : List WrittenItem) (n : ℕ) (i : Node) : Type 0 where
   before : ℕ
@@ -261,7 +253,7 @@ reader_of : (table : List Declared) (k : ℕ) (items : List WrittenItem) (n : �
     → slice_get (filter is_reader (map (resolved_item table) items)) n ≡ Some i → IsOf table k items n i
 reader_of table k [] n i none e = absurd cc
 reader_of table k (w ∷ more) n i none e =
-    decide (is_reader_sort (sort_of_form w.form)) refl n (sort_kept table w.name.text w.form) (λ m. reader_of table (suc k) more m i (nothing_right (item_faults table k w) (items_faults table (suc k) more) none)) e
+    decide (is_reader_sort (sort_of_form w.form)) refl n (sorts_kept table w.name.text w.form).readers (λ m. reader_of table (suc k) more m i (nothing_right (item_faults table k w) (items_faults table (suc k) more) none)) e
   where
     here : item_faults table k w ≡ []
     here = nothing_left (item_faults table k w) (items_faults table (suc k) more) none
@@ -312,36 +304,19 @@ expression_at : (table : List Declared) (items : List WrittenItem) (j : ℕ) (e 
 expression_at table [] j e stands is = absurd cc
 expression_at table (w ∷ more) zero e stands is =
     let sort_is : sort_of_form w.form ≡ sort.Expression = ap (λ (o : Declared). o.sort) (some_is (declared_by w) e stands) ∙ is in
-    let reads : is_reader (resolved_item table w) ≡ true = sort_kept table w.name.text w.form ∙ ap is_reader_sort sort_is in
+    let reads : is_reader (resolved_item table w) ≡ true = (sorts_kept table w.name.text w.form).readers ∙ ap is_reader_sort sort_is in
     rw reads (expression_kept table w.name.text w.form sort_is)
   where
     some_is : (a b : Declared) → Some a ≡ Some b → a ≡ b
     some_is a b e = cc
 expression_at table (w ∷ more) (suc j) e stands is =
-    decide (is_reader_sort (sort_of_form w.form)) refl (sort_kept table w.name.text w.form) (expression_at table more j e stands is)
+    decide (is_reader_sort (sort_of_form w.form)) refl (sorts_kept table w.name.text w.form).readers (expression_at table more j e stands is)
   where
     decide : (b : Bool) → b ≡ is_reader_sort (sort_of_form w.form) → is_reader (resolved_item table w) ≡ is_reader_sort (sort_of_form w.form)
         → is_expression_at (slice_get (filter is_reader (map (resolved_item table) more)) (count_of is_reader_sort (take j (declarations more)))) ≡ true
         → is_expression_at (slice_get (filter is_reader (map (resolved_item table) (w ∷ more))) (count_of is_reader_sort (take (suc j) (declarations (w ∷ more))))) ≡ true
     decide true b same rest = rw (same, ← b) rest
     decide false b same rest = rw (same, ← b) rest
-
--- fewer are counted before an earlier place, where one that counts stands
-counted_before : (counted : Sort → Bool) (table : List Declared) (j k : ℕ) (e : Declared) → slice_get table j ≡ Some e → counted e.sort ≡ true → j < k
-    → count_of counted (take j table) < count_of counted (take k table)
-counted_before counted [] j k e stands is before = absurd cc
-counted_before counted (c ∷ more) j zero e stands is before = absurd (omega (arith, before))
-counted_before counted (c ∷ more) zero (suc k) e stands is before =
-    let same : c ≡ e = cc in
-    let counts : counted c.sort ≡ true = ap (λ (o : Declared). counted o.sort) same ∙ is in
-    rw counts (omega arith)
-counted_before counted (c ∷ more) (suc j) (suc k) e stands is before =
-    decide (counted c.sort) refl (counted_before counted more j k e stands is (omega (arith, before)))
-  where
-    decide : (b : Bool) → b ≡ counted c.sort → count_of counted (take j more) < count_of counted (take k more)
-        → count_of counted (take (suc j) (c ∷ more)) < count_of counted (take (suc k) (c ∷ more))
-    decide true b rest = rw (← b) (omega (arith, rest))
-    decide false b rest = rw (← b) rest
 
 within : (is : List Node) (m : ℕ) → is_expression_at (slice_get is m) ≡ true → m < length is
 within [] m e = absurd cc
@@ -450,6 +425,10 @@ module _ (d : DraftShape) where
   abbrev Below : ℕ → Read → Type 0
   Below bound = ReadsBelow (resolved d) bound
 
+  -- what both facts of a read say, carried in one walk
+  abbrev ReadsWell : ℕ → Read → Type 0
+  ReadsWell bound r = Below bound r × ReadsSources (resolved d) r
+
   -- how many readers are declared before a place
   abbrev number_of : ℕ → ℕ
   number_of j = count_of is_reader_sort (take j (declarations d.items))
@@ -472,54 +451,57 @@ module _ (d : DraftShape) where
   found_below bound j e form.Width stands is below = tt
   found_below bound j e form.Height stands is below = tt
 
-  reads_below : (k : ℕ) (holder : Holder) (bound : ℕ)
+  reads_well : (k : ℕ) (holder : Holder) (bound : ℕ)
       → ((j : ℕ) (e : Declared) → slice_get (declarations d.items) j ≡ Some e → e.sort ≡ sort.Expression → is_forward (spot_in (declarations d.items) k holder []) (Some (j, e)) ≡ false → number_of j < bound)
-      → AreReads (Below bound) (spot_in (declarations d.items) k holder [])
-  reads_below k holder bound below f place name none =
+      → AreReads (ReadsWell bound) (spot_in (declarations d.items) k holder [])
+  reads_well k holder bound below f place name none =
       let table = declarations d.items in
       let spot = spot_in table k holder [] in
       let unknown = nothing_left (unknown_name table (sought_by f) name) (in_task_fault spot place ++ forward_read spot f name) none in
       let forward = nothing_right (in_task_fault spot place) (forward_read spot f name) (nothing_right (unknown_name table (sought_by f) name) (in_task_fault spot place ++ forward_read spot f name) none) in
       let backward = holds_not (is_forward spot (declaration (sought_by f) name.text table)) (name_refused fault.ForwardRead name) forward in
-      some_of (declaration (sought_by f) name.text table) (Below bound (resolved_read table f name.text))
+      some_of (declaration (sought_by f) name.text table) (ReadsWell bound (resolved_read table f name.text))
       (holds_not (is_none (declaration (sought_by f) name.text table)) (name_refused fault.NameUnknown name) unknown)
       (λ found is.
       let h = finds (sought_by f) name.text table found is in
       let not_behind : is_forward spot (Some found) ≡ false = ap (is_forward spot) (sym is) ∙ backward in
-      rw is (found_below bound found.0 found.1 f h.stands h.is (λ sorted. below found.0 found.1 h.stands sorted not_behind)))
+      rw is (
+        found_below bound found.0 found.1 f h.stands h.is (λ sorted. below found.0 found.1 h.stands sorted not_behind),
+        found_own d found.0 found.1 f h.stands h.is,
+      ))
 
   -- an expression reads what stands before it
-  in_expressions : (k : ℕ) → AreReads (Below (number_of k)) (spot_in (declarations d.items) k in_expression [])
-  in_expressions k = reads_below k in_expression (number_of k)
+  in_expressions : (k : ℕ) → AreReads (ReadsWell (number_of k)) (spot_in (declarations d.items) k in_expression [])
+  in_expressions k = reads_well k in_expression (number_of k)
       (λ j e stands is not_behind.
       let before : nat_le k j ≡ false = ap (λ s. is_at_or_behind k s j) (sym is) ∙ not_behind in
       counted_before is_reader_sort (declarations d.items) j k e stands (ap is_reader_sort is) (leb-false k j before))
 
   -- another reader reads any
-  in_others : (k : ℕ) → AreReads (Below (length (readers (resolved d)))) (spot_in (declarations d.items) k elsewhere [])
-  in_others k = reads_below k elsewhere (length (readers (resolved d)))
+  in_others : (k : ℕ) → AreReads (ReadsWell (length (readers (resolved d)))) (spot_in (declarations d.items) k elsewhere [])
+  in_others k = reads_well k elsewhere (length (readers (resolved d)))
       (λ j e stands is not_behind. within (readers (resolved d)) (number_of j) (expression_at (declarations d.items) d.items j e stands is))
 
   form_reads : (k n : ℕ) (name : List ℕ) (f : WrittenForm) → n ≡ number_of k → form_faults (declarations d.items) k f ≡ []
-      → Every (Below (bound_of (resolved d) n (resolved_form (declarations d.items) name f))) (reads_in_node (resolved_form (declarations d.items) name f))
+      → Every (ReadsWell (bound_of (resolved d) n (resolved_form (declarations d.items) name f))) (reads_in_node (resolved_form (declarations d.items) name f))
   form_reads k n name (draft.input start) at none = tt
   form_reads k n name (draft.value start) at none = tt
   form_reads k n name (draft.task parameters body) at none = tt
   form_reads k n name (draft.reactive keys body) at none =
-      rw at (keyed_reads (Below (number_of k)) (spot_in (declarations d.items) k in_expression []) keys body (in_expressions k) none)
+      rw at (keyed_reads (ReadsWell (number_of k)) (spot_in (declarations d.items) k in_expression []) keys body (in_expressions k) none)
   form_reads k n name (draft.event flags e body) at none =
       let spot = spot_in (declarations d.items) k in_expression [] in
       rw at (
-      every_both (Below (number_of k)) (reads_in (resolved_tree spot.table [] 0 e)) (reads_in (resolved_tree spot.table [] (suc (draft_site_count e)) body.term))
-      (term_reads (Below (number_of k)) spot [] 0 e (in_expressions k) (nothing_left (term_faults spot e) (body_faults spot body) none))
-      (term_reads (Below (number_of k)) spot [] (suc (draft_site_count e)) body.term (in_expressions k) (body_passes spot body (nothing_right (term_faults spot e) (body_faults spot body) none)))
+      every_both (ReadsWell (number_of k)) (reads_in (resolved_tree spot.table [] 0 e)) (reads_in (resolved_tree spot.table [] (suc (draft_site_count e)) body.term))
+      (term_reads (ReadsWell (number_of k)) spot [] 0 e (in_expressions k) (nothing_left (term_faults spot e) (body_faults spot body) none))
+      (term_reads (ReadsWell (number_of k)) spot [] (suc (draft_site_count e)) body.term (in_expressions k) (body_passes spot body (nothing_right (term_faults spot e) (body_faults spot body) none)))
       )
-  form_reads k n name (draft.text shown) at none = keyed_reads (Below (length (readers (resolved d)))) (spot_in (declarations d.items) k elsewhere []) shown.keys shown.body (in_others k) none
-  form_reads k n name (draft.plot shown) at none = keyed_reads (Below (length (readers (resolved d)))) (spot_in (declarations d.items) k elsewhere []) shown.keys shown.body (in_others k) none
-  form_reads k n name (draft.observe priority block) at none = acts_reads (Below (length (readers (resolved d)))) (spot_in (declarations d.items) k elsewhere []) 0 block (in_others k) none
+  form_reads k n name (draft.text shown) at none = keyed_reads (ReadsWell (length (readers (resolved d)))) (spot_in (declarations d.items) k elsewhere []) shown.keys shown.body (in_others k) none
+  form_reads k n name (draft.plot shown) at none = keyed_reads (ReadsWell (length (readers (resolved d)))) (spot_in (declarations d.items) k elsewhere []) shown.keys shown.body (in_others k) none
+  form_reads k n name (draft.observe priority block) at none = acts_reads (ReadsWell (length (readers (resolved d)))) (spot_in (declarations d.items) k elsewhere []) 0 block (in_others k) none
   form_reads k n name (draft.on priority flags e block) at none =
       let spot = spot_in (declarations d.items) k elsewhere [] in
-      let any = Below (length (readers (resolved d))) in
+      let any = ReadsWell (length (readers (resolved d))) in
       every_both any (reads_in (resolved_tree spot.table [] 0 e)) (reads_in_acts (resolved_acts spot.table (suc (draft_site_count e)) block))
       (term_reads any spot [] 0 e (in_others k) (nothing_left (term_faults spot e) (acts_faults spot block) none))
       (acts_reads any spot (suc (draft_site_count e)) block (in_others k) (nothing_right (term_faults spot e) (acts_faults spot block) none))
@@ -533,12 +515,19 @@ module _ (d : DraftShape) (none : faults d ≡ []) where
   passing : (k : ℕ) (w : WrittenItem) → item_faults (declarations d.items) k w ≡ [] → form_faults (declarations d.items) k w.form ≡ []
   passing k w none = nothing_right (item_too_many k w ++ second_item (declarations d.items) k w) (form_faults (declarations d.items) k w.form) none
 
+  reads_at : (n : ℕ) (i : Node) → reader (resolved d) n ≡ Some i → Every (ReadsWell d (bound_of (resolved d) n i)) (reads_in_node i)
+  reads_at n i e =
+      let r = reader_is n i e in
+      subst (λ (node : Node). Every (ReadsWell d (bound_of (resolved d) n node)) (reads_in_node node)) r.stands
+      (form_reads d (0 + r.before) n r.item.name.text r.item.form (r.number ∙ ap (number_of d) (omega arith)) (passing (0 + r.before) r.item r.passes))
+
   resolved_is_orderly : IsOrderly (resolved d)
   resolved_is_orderly = record {
     reads = λ n i e.
-        let r = reader_is n i e in
-        subst (λ (node : Node). Every (ReadsBelow (resolved d) (bound_of (resolved d) n node)) (reads_in_node node)) r.stands
-        (form_reads d (0 + r.before) n r.item.name.text r.item.form (r.number ∙ ap (number_of d) (omega arith)) (passing (0 + r.before) r.item r.passes));
+        let bound = bound_of (resolved d) n i in
+        every_map (ReadsWell d bound) (ReadsBelow (resolved d) bound) (λ r well. well.0) (reads_in_node i) (reads_at n i e);
+    sources = λ n i e.
+        every_map (ReadsWell d (bound_of (resolved d) n i)) (ReadsSources (resolved d)) (λ r well. well.1) (reads_in_node i) (reads_at n i e);
     sites = λ n i e.
         let r = reader_is n i e in
         subst IsNumberedNode r.stands (form_numbered (declarations d.items) (0 + r.before) r.item.name.text r.item.form (passing (0 + r.before) r.item r.passes));

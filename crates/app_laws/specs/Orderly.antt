@@ -1,10 +1,10 @@
--- What the laws of a session take from an app: readers read earlier expressions, and each isolated site of a reader has
--- a number of its own. Each well-formed app is so.
+-- What the laws of a session take from an app: readers read earlier expressions and the app's own sources, and each
+-- isolated site of a reader has a number of its own. Each well-formed app is so.
 use Rattle.std.specs.Prelude.{◌≡◌, ◌<◌, ⊤, ℕ, suc, ◌+◌, true, List, [], ◌++◌, length, Some, if◌then◌else◌}
 use Rattle.app_tree.specs.declared.term.Read.{Read}
 use Rattle.app_tree.specs.declared.term.Read.TheVariants as read
 use Rattle.app_tree.specs.Tree.{Tree, constant, group, get, variable, isolate, stop, require, fold, unary, binary, choice, call, Trees, no_trees, tree, Act, set, invoke, update, freeze, perform, branch, branch_else, Acts, no_acts, act, Node, reactive, event, text, plot, observe, on, Shape}
-use Rattle.app_tree.specs.Numbering.{readers, reader, is_expression}
+use Rattle.app_tree.specs.Numbering.{readers, reader, is_expression, starting_values, width_source, height_source}
 use Rattle.app_tree.specs.Fresh.{is_expression_at}
 use Rattle.app_tree.specs.Evaluate.{site_count, site_count_all}
 use Rattle.app_tree.specs.Cover.{reads_in, reads_in_all}
@@ -41,6 +41,16 @@ reads_in_node _ = []
 abbrev pub ReadsBelow : Shape → ℕ → Read → Type 0
 ReadsBelow app bound (read.Expr m) = (m < bound) × (is_expression_at (reader app m) ≡ true)
 ReadsBelow app bound r = ⊤
+
+-- a read of a source reads one of the app's own; of an expression nothing is said
+abbrev pub ReadsSources : Shape → Read → Type 0
+ReadsSources app (read.Input s) = s < length (starting_values app.items)
+ReadsSources app (read.Value s) = s < length (starting_values app.items)
+ReadsSources app (read.Status s) = s < length (starting_values app.items)
+ReadsSources app (read.Result s) = s < length (starting_values app.items)
+ReadsSources app (read.Width m) = width_source app m < length (starting_values app.items)
+ReadsSources app (read.Height m) = height_source app m < length (starting_values app.items)
+ReadsSources app (read.Expr m) = ⊤
 
 -- an expression reads expressions of smaller numbers, and outputs and observers read any
 abbrev pub bound_of : Shape → ℕ → Node → ℕ
@@ -115,4 +125,5 @@ IsNumberedNode _ = ⊤
 
 pub record IsOrderly (app : Shape) : Type 0 where
   pub reads : (n : ℕ) (i : Node) → reader app n ≡ Some i → Every (ReadsBelow app (bound_of app n i)) (reads_in_node i)
+  pub sources : (n : ℕ) (i : Node) → reader app n ≡ Some i → Every (ReadsSources app) (reads_in_node i)
   pub sites : (n : ℕ) (i : Node) → reader app n ≡ Some i → IsNumberedNode i

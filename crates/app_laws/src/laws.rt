@@ -11,8 +11,8 @@ pub fn evaluation_laws()
     ensures { EqualAnswersGiveEqual }
 {}
 
-/// In each well-formed app an expression reads earlier ones alone, and each isolated site of a reader has a number
-/// of its own.
+/// In each well-formed app an expression reads earlier ones alone, each source that a reader reads is one of the app's own,
+/// and each isolated site of a reader has a number of its own.
 #[tactic(auto, using(crate::proofs::WellOrdered::well_formed_is_orderly))]
 pub fn app_laws()
     ensures { WellFormedIsOrderly }

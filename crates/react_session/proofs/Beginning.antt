@@ -23,7 +23,7 @@ use Rattle.react_session.specs.Holding.{StandsForSome, IsWhole, IsHeld}
 use Rattle.react_session.proofs.ByNumber.{same_number, none_runs, context_here, context_there, kept_here, kept_there, observes_itself, observes_no_other, by_number, alive_at, running_at, used_at}
 use Rattle.react_session.proofs.Seeing.{seen_size, seen_at, StaysBut, seen_but, alike_where}
 
-observer_at : (o : Option Node) → is_observer_at o ≡ true → (i : Node) × (o ≡ Some i) × (is_observer i ≡ true)
+pub observer_at : (o : Option Node) → is_observer_at o ≡ true → (i : Node) × (o ≡ Some i) × (is_observer i ≡ true)
 observer_at None h = cc
 observer_at (Some i) h = (i, refl, h)
 
@@ -125,6 +125,7 @@ module _ (app : Shape) (values : NumberedValues) (g after : Contexts) (ks : List
     begin_held = record {
       proper = held.proper;
       numbers = held.numbers;
+      known = held.known;
       sources = same.sources ∙ held.sources;
       contexts = same.count ∙ length-set g.readers n (record (context_at g n) { stage = running [] }) ∙ held.contexts;
       each_kept = length-set ks n now_ran ∙ held.each_kept;

@@ -89,6 +89,7 @@ module _ (app : Shape) (values : NumberedValues) (g after : Contexts) (ks : List
   finish_held = record {
     proper = held.proper;
     numbers = held.numbers;
+    known = held.known;
     sources = same.sources ∙ held.sources;
     contexts = same.count ∙ length-set g.readers n closed ∙ held.contexts;
     each_kept = held.each_kept;

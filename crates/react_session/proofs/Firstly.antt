@@ -1,5 +1,5 @@
 -- A session in which nothing has run.
-use Rattle.std.proofs.Common.{◌≡◌, ℕ, zero, suc, true, List, [], ◌∷◌, length, Some, None, refl, sym, ap, ◌∙◌, subst}
+use Rattle.std.proofs.Common.{◌≡◌, ℕ, zero, suc, true, List, [], ◌∷◌, length, None, refl, sym, ap, ◌∙◌, subst}
 use Rattle.std.specs.Prelude.{replicate, slice_index_or}
 use Rattle.std.proofs.lemmas.Bool.{false≢true}
 use Rattle.std.proofs.lemmas.List.{length-replicate}
@@ -48,6 +48,7 @@ module _ (app : Shape) (proper : IsProper app) (values : NumberedValues) (g : Co
   first_held = record {
     proper = proper;
     numbers = numbers;
+    known = ap length valued;
     sources = ap (λ (c : Contexts). c.sources) idles ∙ ap length (sym valued);
     contexts = ap (λ (c : Contexts). length c.readers) idles ∙ length-replicate (length (readers app)) idle_context;
     each_kept = ap length blanks ∙ length-replicate (length (readers app)) blank;

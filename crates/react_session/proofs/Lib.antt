@@ -9,3 +9,14 @@ pub mod Depending
 pub mod StoredRuns
 pub mod Trails
 pub mod Tried
+pub mod EndedParts
+pub mod Ended
+pub mod Waited
+pub mod KeysWritten
+pub mod Made
+pub mod LeavesOut
+pub mod TermsParts
+pub mod TermsReached
+pub mod TermsMembers
+pub mod TermsCome
+pub mod StaysPut

@@ -6,7 +6,7 @@ use Rattle.std.proofs.lemmas.Bool.Decides.{eqb_tells}
 use Rattle.rx_value.specs.declared.source.SourceValue.{SourceValue}
 use Rattle.app_tree.specs.declared.term.Read.TheVariants.{Expr}
 use Rattle.app_tree.specs.Tree.{Shape}
-use Rattle.session_model.specs.Standing.{Dependence, never_run, stale, alive, is_live, did_run, IsSameDependence, KeptReader, KeptSession, first_kept, kept_reader}
+use Rattle.session_model.specs.Standing.{is_live, did_run, IsSameDependence, KeptReader, KeptSession, first_kept, kept_reader}
 use Rattle.session_steps.specs.Keeping.{lives, outcome_if_alive, kept_answer, IsAlikeReader, IsAlike}
 use Rattle.dep_graph.specs.Contexts.{Stage, idle, alive as alive_stage, running, overtaken, ReaderContext as Context, Contexts, idle_context, context_at, is_alive_stage, is_current_stage, is_alive, is_current}
 use Rattle.dep_graph.specs.SameGraph.{IsSameStage, IsSameContext, IsSameGraph}
@@ -147,21 +147,6 @@ alike_where session values g h ks o e same valued sized runs each =
           (alike_reader (is_observing o m) (context_at h m) (context_at g m) (kept_at ks m) ((graph-sym g h same).each m)));
       running = runs;
     }
-
--- ---- a session itself
-
-same_dependence : (d : Dependence) → IsSameDependence d d
-same_dependence never_run = tt
-same_dependence stale = tt
-same_dependence (alive sources) = λ s. refl
-
-pub alike_itself : (session : KeptSession) → IsAlike session session
-alike_itself session = record {
-  values = refl;
-  size = refl;
-  readers = λ n. record { dependence = same_dependence (kept_reader session n).dependence; isolated = refl; outcome = refl };
-  running = refl;
-}
 
 -- ---- what is answered
 

@@ -41,11 +41,11 @@ evaluated_apart : (o : Option Node) → is_evaluated_at o ≡ true → is_observ
 evaluated_apart None h p = false≢true h
 evaluated_apart (Some i) h p = false≢true (sym (observer_alone i p) ∙ h)
 
-expression_evaluated : (o : Option Node) → is_expression_at o ≡ true → is_evaluated_at o ≡ true
+pub expression_evaluated : (o : Option Node) → is_expression_at o ≡ true → is_evaluated_at o ≡ true
 expression_evaluated None h = h
 expression_evaluated (Some i) h = ap (λ b. b || is_output i) h
 
-evaluated_in : (is : List Node) (n : ℕ) (o : Option Node) → slice_get is n ≡ o → is_evaluated_at o ≡ true → n < length is
+pub evaluated_in : (is : List Node) (n : ℕ) (o : Option Node) → slice_get is n ≡ o → is_evaluated_at o ≡ true → n < length is
 evaluated_in is n None e h = absurd (false≢true h)
 evaluated_in is n (Some i) e h = get_in is n i e
 
@@ -63,13 +63,13 @@ live_left : (a b : Bool) → a ≡ true → (a || b) ≡ true
 live_left true b h = refl
 live_left false b h = absurd (false≢true h)
 
-reached_seen : (observes ran : Bool) (t : Stage) → is_alive_stage t ≡ true → sources_reached t ≡ reached_by (dependence_seen observes ran t)
+pub reached_seen : (observes ran : Bool) (t : Stage) → is_alive_stage t ≡ true → sources_reached t ≡ reached_by (dependence_seen observes ran t)
 reached_seen observes ran idle h = absurd (false≢true h)
 reached_seen observes ran (alive_stage s) h = refl
 reached_seen observes ran (running s) h = absurd (false≢true h)
 reached_seen observes ran overtaken h = absurd (false≢true h)
 
-runs_dead : (t : Stage) → is_running_stage t ≡ true → is_alive_stage t ≡ false
+pub runs_dead : (t : Stage) → is_running_stage t ≡ true → is_alive_stage t ≡ false
 runs_dead idle h = refl
 runs_dead (alive_stage s) h = absurd (false≢true h)
 runs_dead (running s) h = refl
@@ -181,6 +181,7 @@ module _ (app : Shape) (values : NumberedValues) (g : Contexts) (ks : List Kept)
       lost_held = record {
         proper = held.proper;
         numbers = held.numbers;
+        known = held.known;
         sources = still.sources ∙ begins.sources ∙ held.sources;
         contexts = still.count ∙ begins.count ∙ opened_size ∙ held.contexts;
         each_kept = held.each_kept;
@@ -319,6 +320,7 @@ module _ (app : Shape) (values : NumberedValues) (g : Contexts) (ks : List Kept)
         store_held = record {
           proper = held.proper;
           numbers = held.numbers;
+          known = held.known;
           sources = is_final.sources ∙ depended.sources ∙ held.sources;
           contexts = is_final.count ∙ final_size ∙ held.contexts;
           each_kept = kept_size ∙ held.each_kept;

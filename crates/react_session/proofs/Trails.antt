@@ -1,6 +1,6 @@
 -- What an evaluation over a session notes is what it reads outside of its sites, and what its sites come to.
 use Rattle.std.specs.Prelude.{not, ◌&&◌, if◌then◌else◌}
-use Rattle.std.proofs.Common.{◌≡◌, Bool, true, false, ℕ, zero, suc, ◌+◌, ◌-◌, List, [], ◌∷◌, ◌++◌, Option, Some, None, refl, sym, ap, ◌∙◌, subst, arith, append_assoc, append-nil}
+use Rattle.std.proofs.Common.{◌≡◌, Bool, true, false, ℕ, suc, ◌+◌, ◌-◌, List, [], ◌∷◌, ◌++◌, Option, Some, None, refl, sym, ap, ◌∙◌, arith, append_assoc, append-nil}
 use Rattle.rx_value.specs.declared.value.Value.{Value}
 use Rattle.rx_value.specs.declared.outcome.Outcome.{Outcome}
 use Rattle.rx_value.specs.declared.outcome.Outcome.TheVariants as o
@@ -14,12 +14,12 @@ use Rattle.app_tree.specs.Cover.{reads_in, reads_in_all, with_keys}
 use Rattle.app_tree.specs.Evaluate.{TraceEntry, reads, given, enters, leaves, Evaluation, plain, then_by, at_site, evaluate, site_count, site_count_all}
 use Rattle.app_tree.specs.Wanted.{Answering, completed, wanted_by, first_wanted}
 use Rattle.app_laws.specs.Orderly.{IsNumbered, AreNumbered, IsNumberedNode}
-use Rattle.app_laws.specs.Recorded.{given_outcome, recorded}
+use Rattle.app_laws.specs.Recorded.{recorded}
 use Rattle.app_laws.proofs.Asking.{IsOfParts, given_site, left_site, term_has, terms_have}
 use Rattle.app_laws.proofs.WhatIsAsked.{IsAnyRead, any_reads, recorded-append}
 use Rattle.term_eval.specs.Bodies.{IsUncached}
 use Rattle.dep_graph.specs.declared.on.On.{On}
-use Rattle.react_session.specs.inner.Trail.{on_of_read, with_on, with_reads, Trail, first_trail, reached_at, noted_read, trail_step, trail_after, trail_after-append, AreNotes}
+use Rattle.react_session.specs.inner.Trail.{on_of_read, with_on, with_reads, Trail, first_trail, reached_at, noted_read, trail_after, trail_after-append, AreNotes}
 
 -- ---- what is wanted of joined traces
 

@@ -109,6 +109,7 @@ module _ (app : Shape) (values : NumberedValues) (g after : Contexts) (ks : List
   change_held differs = record {
     proper = held.proper;
     numbers = held.numbers;
+    known = length-set values.values s x ∙ held.known;
     sources = same.sources ∙ held.sources ∙ sym (length-set values.values s x);
     contexts = same.count ∙ length-map g.readers (changed_context s) ∙ held.contexts;
     each_kept = held.each_kept;

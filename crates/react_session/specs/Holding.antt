@@ -1,7 +1,7 @@
 -- What holds of the parts of a session.
 use Rattle.std.specs.Prelude.{◌≡◌, ℕ, Bool, true, List, length, Option, Some}
 use Rattle.app_tree.specs.Tree.{Shape}
-use Rattle.app_tree.specs.Numbering.{readers, reader, numbers_of}
+use Rattle.app_tree.specs.Numbering.{readers, reader, numbers_of, starting_values}
 use Rattle.app_tree.specs.Fresh.{is_expression_at}
 use Rattle.app_laws.specs.Proper.{IsProper}
 use Rattle.rx_source.specs.NumberedValues.{NumberedValues}
@@ -24,10 +24,11 @@ pub record IsWhole (app : Shape) (values : NumberedValues) (g : Contexts) (kept 
   pub used : (n : ℕ) → (context_at g n).used ≡ true → is_expression_at (reader app n) ≡ true
   pub stands : StandsForSome app (session_seen values.values g.readers kept observer)
 
--- What is alive has run, and so has the observer that runs.
+-- There is a value for each source. What is alive has run, and so has the observer that runs.
 pub record IsHeld (app : Shape) (values : NumberedValues) (g : Contexts) (kept : List Kept) (observer : Option ℕ) (found : Bool) : Type 0 where
   pub proper : IsProper app
   pub numbers : values.numbers ≡ numbers_of app
+  pub known : length values.values ≡ length (starting_values app.items)
   pub sources : g.sources ≡ length values.values
   pub contexts : length g.readers ≡ length (readers app)
   pub each_kept : length kept ≡ length (readers app)

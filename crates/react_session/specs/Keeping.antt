@@ -1,5 +1,5 @@
 -- What contracts see of a session.
-use Rattle.std.specs.Prelude.{ℕ, Bool}
+use Rattle.std.specs.Prelude.{Bool}
 use Rattle.app_tree.specs.Held.{Held}
 use Rattle.session_model.specs.Standing.{KeptSession}
 

@@ -3,3 +3,5 @@ pub mod Storing
 pub mod Trail
 pub mod Reading
 pub mod Tries
+pub mod Making
+pub mod Terms

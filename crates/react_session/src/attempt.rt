@@ -61,7 +61,7 @@ fn ignored_site(session: &Session, n: u32) -> Result<Option<usize>, Memory>
 }
 
 /// An evaluation that has noted nothing so far.
-fn reading(alloc: Global, session: &Session, ignored: Option<usize>) -> Reading<'_>
+pub fn reading(alloc: Global, session: &Session, ignored: Option<usize>) -> Reading<'_>
     ensures session { result.session.now ≡ session.now }
     ensures ignored { result.ignored ≡ ignored }
     ensures depth { result.depth ≡ 0 }

@@ -19,7 +19,7 @@ use rx_value::{Memory, Outcome, RxList};
 use std::alloc::Global;
 
 /// The running reader depends on each of these.
-fn depend_on_all(graph: &mut Graph, alloc: Global, n: u32, reached: &[On]) -> Result<(), Memory>
+pub fn depend_on_all(graph: &mut Graph, alloc: Global, n: u32, reached: &[On]) -> Result<(), Memory>
     requires within { n < length graph.old.readers }
     requires runs { is_running graph.old n ≡ true }
     requires reached { Every (IsWithin graph.old n) reached.now }

@@ -2,4 +2,5 @@ pub mod Faults
 pub mod Files
 pub mod Source
 pub mod Sink
+pub mod Link
 pub mod MemoryForms

@@ -17,20 +17,17 @@ use Rattle.app_laws.proofs.KnownLists.{get_in}
 use Rattle.app_laws.proofs.WhatIsAsked.{if_true}
 use Rattle.session_model.specs.Standing.{KeptSession, kept_reader}
 use Rattle.session_laws.proofs.Kept.{expression_at}
-use Rattle.session_laws.proofs.StandingLaws.{same_itself}
 use Rattle.session_laws.proofs.Staying.{asked_low}
 use Rattle.session_laws.proofs.Walking.{expression_of}
-use Rattle.session_steps.specs.Keeping.{lives, kept_answer, answering, wanted, attempt, bodies_run, run_kept, IsAlike}
+use Rattle.session_steps.specs.Keeping.{lives, kept_answer, answering, wanted, attempt, bodies_run, run_kept}
 use Rattle.session_steps.specs.Bringing.{Aim, reading, running, Brings, Begins}
 use Rattle.session_steps.specs.Acting.{term_answering, term_attempt, term_kept, Comes, ComesUntil}
+use Rattle.session_steps.proofs.AlikeSessions.{alike_itself}
 use Rattle.session_steps.proofs.Wanting.{found, unanswered_dead}
 use Rattle.session_steps.proofs.CountedTotals.{total, only, total_most}
 use Rattle.session_steps.proofs.BodiesAsked.{term_reads}
 use Rattle.session_steps.proofs.BodiesTerms.{term_wants_below}
 use Rattle.session_steps.proofs.BodiesOnce.{IsBelow, wanted_below, Goes, goes}
-
-pub alike_itself : (s : KeptSession) → IsAlike s s
-alike_itself s = record { values = refl; size = refl; readers = λ n. record { dependence = same_itself (kept_reader s n).dependence; isolated = refl; outcome = refl }; running = refl }
 
 -- ---- fewer readers are dead
 

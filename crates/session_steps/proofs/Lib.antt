@@ -32,3 +32,5 @@ pub mod Hits
 pub mod Forced
 pub mod Outputs
 pub mod Terms
+pub mod AlikeSessions
+pub mod Determined

@@ -3,3 +3,4 @@ pub mod Bringing
 pub mod Acting
 pub mod StandLaws
 pub mod BodyLaws
+pub mod Determined

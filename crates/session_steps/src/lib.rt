@@ -3,7 +3,9 @@
 #![tactic(auto)]
 
 mod body_laws;
+mod examples;
 mod laws;
 
 pub use body_laws::{bound_laws, once_laws, quiet_laws, want_laws};
+pub use examples::{bodies_examples, determined_laws};
 pub use laws::stand_laws;

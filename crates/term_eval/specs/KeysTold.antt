@@ -1,5 +1,5 @@
 -- What the keys of a cached reader are told to be.
-use Rattle.std.specs.Prelude.{◌≡◌, ℕ, List, Some, None, Ok, Err}
+use Rattle.std.specs.Prelude.{◌≡◌, ⊤, ℕ, List, Some, None, Ok, Err}
 use Rattle.app_tree.specs.declared.term.Read.TheVariants.{Expr}
 use Rattle.app_tree.specs.Tree.{Trees}
 use Rattle.app_tree.specs.Evaluate.{TraceEntry, Evaluation}
@@ -13,7 +13,7 @@ abbrev pub TellsKeys : {S : Type 0} → (S → Answering) → (S → List TraceE
 TellsKeys answers noted node keys e old new (keyed.Key key) = (key.node ≡ node) × (keys ≡ Ok key.parts) × (first_wanted (answers old) e.asked ≡ None) × noted old e.asked new
 TellsKeys answers noted node keys e old new (keyed.Fails outcome) = (keys ≡ Err outcome) × (first_wanted (answers old) e.asked ≡ None) × noted old e.asked new
 TellsKeys answers noted node keys e old new (keyed.Wants m) = (first_wanted (answers old) e.asked ≡ Some (Expr m)) × noted old (up_to_wanted (answers old) e.asked) new
-TellsKeys answers noted node keys e old new keyed.Memory = Unit {0}
+TellsKeys answers noted node keys e old new keyed.Memory = ⊤
 
 -- of these keys, over a reader, for the reader of this number
 abbrev pub EvalsKeys : {S : Type 0} → (S → Answering) → (S → List TraceEntry → S → Type 0) → ℕ → Trees → S → S → Keyed → Type 0

@@ -14,6 +14,8 @@ mod function_tests;
 #[cfg(test)]
 mod json_tests;
 #[cfg(test)]
+mod link_tests;
+#[cfg(test)]
 mod operator_tests;
 #[cfg(test)]
 mod outcome_tests;

@@ -1,5 +1,5 @@
 -- What one evaluation over a session comes to.
-use Rattle.std.specs.Prelude.{◌≡◌, ⊤, ℕ, List, [], ◌∷◌, Option, Some, None, Ok, Err, if◌then◌else◌}
+use Rattle.std.specs.Prelude.{◌≡◌, ⊤, ℕ, [], Option, Some, None, Ok, Err, if◌then◌else◌}
 use Rattle.app_tree.specs.declared.term.Read.TheVariants as read
 use Rattle.app_tree.specs.Tree.{Trees, Tree, Shape}
 use Rattle.app_tree.specs.Numbering.{reader}

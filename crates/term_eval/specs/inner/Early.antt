@@ -1,5 +1,5 @@
 -- How an evaluation ends early.
-use Rattle.std.specs.Prelude.{◌≡◌, Result, Ok, Err}
+use Rattle.std.specs.Prelude.{◌≡◌, ⊤, Result, Ok, Err}
 use Rattle.rx_value.specs.declared.value.Value.{Value}
 use Rattle.rx_value.specs.declared.outcome.Outcome.{Outcome}
 use Rattle.rx_value.specs.declared.outcome.Outcome.TheVariants as o
@@ -19,4 +19,4 @@ abbrev pub Comes : Outcome → Result Value Early → Type 0
 Comes outcome (Ok x) = outcome ≡ o.Val x
 Comes outcome (Err (early.Halted h)) = outcome ≡ halted_outcome h
 Comes outcome (Err (early.Wants m)) = ⊥
-Comes outcome (Err early.Memory) = Unit {0}
+Comes outcome (Err early.Memory) = ⊤

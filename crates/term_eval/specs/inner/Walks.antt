@@ -1,5 +1,5 @@
 -- What an evaluation over a reader is.
-use Rattle.std.specs.Prelude.{◌≡◌, ℕ, List, [], ◌∷◌, Some, None, Result, Ok, Err}
+use Rattle.std.specs.Prelude.{◌≡◌, ⊤, ℕ, List, [], ◌∷◌, Some, None, Result, Ok, Err}
 use Rattle.rx_value.specs.declared.value.Value.{Value}
 use Rattle.rx_value.specs.declared.outcome.Outcome.{Outcome}
 use Rattle.rx_value.specs.declared.outcome.Outcome.TheVariants.{Val, Stop}
@@ -53,4 +53,4 @@ abbrev pub Leaves : {S : Type 0} → (S → List TraceEntry → S → Type 0) �
 Leaves noted site got (Ok x) old new = (got ≡ Ok x) × noted old (leaves site (Val x) ∷ []) new
 Leaves noted site got (Err (early.Halted h)) old new = (got ≡ Err (early.Halted h)) × noted old (leaves site (halted_outcome h) ∷ []) new
 Leaves noted site got (Err (early.Wants m)) old new = (got ≡ Err (early.Wants m)) × (new ≡ old)
-Leaves noted site got (Err early.Memory) old new = Unit {0}
+Leaves noted site got (Err early.Memory) old new = ⊤

@@ -1,14 +1,14 @@
-use Rattle.std.proofs.Common.{◌≡◌, Some, None, refl, sym, ap, ◌∙◌, subst}
+use Rattle.std.proofs.Common.{◌≡◌, Some, None, ap, ◌∙◌, subst}
 use Rattle.app_tree.specs.View.{shape_of}
 use Rattle.app_tree.specs.Numbering.{reader}
 use Rattle.app_tree.specs.declared.term.Read.TheVariants.{Expr}
 use Rattle.app_tree.specs.Fresh.{evaluate_node}
 use Rattle.app_tree.specs.Wanted.{completed, first_wanted}
 use Rattle.app_laws.specs.Proper.{IsProper}
-use Rattle.session_steps.specs.Keeping.{kept_answer, answering, attempt, wanted}
-use Rattle.react_session.specs.inner.Reading.{site_by, answering_by}
+use Rattle.session_steps.specs.Keeping.{kept_answer, answering}
+use Rattle.react_session.specs.inner.Reading.{answering_by}
 use Rattle.react_session.specs.inner.Trail.{Trail, first_trail, trail_after}
-use Rattle.react_session.proofs.Tried.{sites_open, IsTold, done_tries}
+use Rattle.react_session.proofs.Tried.{sites_open, done_tries}
 use Rattle.react_session.proofs.attempt.try_body.Goals as goal
 
 pub returns-in-Done-clause-tries : goal.returns-in-Done-clause-tries

@@ -1,14 +1,11 @@
-use Rattle.std.proofs.Common.{List, [], ◌≡◌, Some, None, Ok, Err, refl, sym, ap, ◌∙◌, subst}
+use Rattle.std.proofs.Common.{List, [], ◌≡◌, refl, ap, ◌∙◌}
 use Rattle.app_tree.specs.View.{shape_of}
-use Rattle.app_tree.specs.declared.term.Read.TheVariants.{Expr}
 use Rattle.app_tree.specs.Numbering.{reader}
 use Rattle.app_tree.specs.Cover.{cached_node}
 use Rattle.app_tree.specs.Evaluate.{TraceEntry, evaluate}
-use Rattle.app_tree.specs.Keys.{keys_result, keys_evaluation}
-use Rattle.app_tree.specs.Wanted.{completed, first_wanted}
-use Rattle.app_laws.specs.Proper.{IsProper}
+use Rattle.app_tree.specs.Wanted.{completed}
 use Rattle.session_steps.specs.Keeping.{kept_answer, answering}
-use Rattle.term_eval.specs.Bodies.{keys_of, body_of}
+use Rattle.term_eval.specs.Bodies.{body_of}
 use Rattle.react_session.specs.declared.reading.Reading.{Reading}
 use Rattle.react_session.specs.inner.Reading.{answering_by}
 use Rattle.react_session.specs.inner.Trail.{IsNoted}

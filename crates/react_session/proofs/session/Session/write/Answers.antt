@@ -10,7 +10,7 @@ use Rattle.react_session.specs.Marking.{marked_by_write}
 use Rattle.react_session.specs.Seen.{session_seen}
 use Rattle.react_session.specs.Holding.{IsHeld}
 use Rattle.react_session.proofs.Writing.{was_same, was_changed, write_same, write_changed, marked_changed, change_alike, change_held, change_marks}
-use Rattle.react_session.proofs.Seeing.{alike_itself}
+use Rattle.session_steps.proofs.AlikeSessions.{alike_itself}
 use Rattle.react_session.proofs.session.Session.write.Goals as goal
 
 pub invariant_of-self-in-Changed : goal.invariant_of-self-in-Changed

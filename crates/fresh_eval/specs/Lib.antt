@@ -1,0 +1,3 @@
+pub mod FirstOutcomes
+pub mod FirstOutcomesExamples
+pub mod inner

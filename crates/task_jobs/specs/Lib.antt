@@ -1,0 +1,3 @@
+pub mod DoneJob
+pub mod FitsApp
+pub mod inner
