@@ -1,0 +1,2 @@
+-- The vocabulary of tests alone.
+pub mod PlainAnswering
