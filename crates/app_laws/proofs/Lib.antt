@@ -11,4 +11,5 @@ pub mod Reaching
 pub mod SortCounts
 pub mod OwnSources
 pub mod WellOrdered
+pub mod Statements
 pub mod Keyed

@@ -22,10 +22,10 @@ module _ (d : DraftShape) where
 
   -- ---- how many sources there are
 
-  inputs_counted : length (filter is_input items) ≡ count_of is_input_sort table
+  pub inputs_counted : length (filter is_input items) ≡ count_of is_input_sort table
   inputs_counted = count_kept is_input is_input_sort table (λ name f. (sorts_kept table name f).inputs) d.items
 
-  values_counted : length (filter is_value items) ≡ count_of is_value_sort table
+  pub values_counted : length (filter is_value items) ≡ count_of is_value_sort table
   values_counted = count_kept is_value is_value_sort table (λ name f. (sorts_kept table name f).values) d.items
 
   tasks_counted : length (filter is_task items) ≡ count_of is_task_sort table
@@ -42,13 +42,13 @@ module _ (d : DraftShape) where
 
   -- ---- the number of a source that is declared is one of them
 
-  input_within : (j : ℕ) (e : Declared) (s : Sort) → slice_get table j ≡ Some e → s ≡ e.sort → is_input_sort s ≡ true → number_at table j s < length (starting_values items)
+  pub input_within : (j : ℕ) (e : Declared) (s : Sort) → slice_get table j ≡ Some e → s ≡ e.sort → is_input_sort s ≡ true → number_at table j s < length (starting_values items)
   input_within j e sort.Input stands same is =
       let few = counted_within is_input_sort table j e stands (ap is_input_sort (sym same)) in
       omega (few, declared_counted, sources_counted items, arith)
   input_within j e _ stands same is = absurd cc
 
-  value_within : (j : ℕ) (e : Declared) (s : Sort) → slice_get table j ≡ Some e → s ≡ e.sort → is_value_sort s ≡ true → number_at table j s < length (starting_values items)
+  pub value_within : (j : ℕ) (e : Declared) (s : Sort) → slice_get table j ≡ Some e → s ≡ e.sort → is_value_sort s ≡ true → number_at table j s < length (starting_values items)
   value_within j e sort.Value stands same is =
       let few = counted_within is_value_sort table j e stands (ap is_value_sort (sym same)) in
       omega (few, declared_counted, sources_counted items, arith)

@@ -27,7 +27,7 @@ use Rattle.app_laws.proofs.WhatIsAsked.{every_map}
 use Rattle.app_laws.proofs.SortCounts.{sorts_kept, counted_before}
 use Rattle.app_laws.proofs.OwnSources.{found_own}
 
-some_of : {A : Type 0} (o : Option A) (P : Type 0) → is_none o ≡ false → ((x : A) → o ≡ Some x → P) → P
+pub some_of : {A : Type 0} (o : Option A) (P : Type 0) → is_none o ≡ false → ((x : A) → o ≡ Some x → P) → P
 some_of None P e f = absurd cc
 some_of (Some x) P e f = f x refl
 
@@ -242,12 +242,12 @@ form_numbered table k name (draft.on priority flags e block) none =
 -- ---- the readers of a draft
 
 -- reader n is what an item stands for that passes the checks, and n readers are declared before it
-record IsOf (table : List Declared) (k : ℕ) (items : List WrittenItem) (n : ℕ) (i : Node) : Type 0 where
-  before : ℕ
-  item : WrittenItem
-  stands : resolved_item table item ≡ i
-  passes : item_faults table (k + before) item ≡ []
-  number : n ≡ count_of is_reader_sort (take before (declarations items))
+pub record IsOf (table : List Declared) (k : ℕ) (items : List WrittenItem) (n : ℕ) (i : Node) : Type 0 where
+  pub before : ℕ
+  pub item : WrittenItem
+  pub stands : resolved_item table item ≡ i
+  pub passes : item_faults table (k + before) item ≡ []
+  pub number : n ≡ count_of is_reader_sort (take before (declarations items))
 
 reader_of : (table : List Declared) (k : ℕ) (items : List WrittenItem) (n : ℕ) (i : Node) → items_faults table k items ≡ []
     → slice_get (filter is_reader (map (resolved_item table) items)) n ≡ Some i → IsOf table k items n i
@@ -509,10 +509,10 @@ module _ (d : DraftShape) where
 -- ---- whole apps
 
 module _ (d : DraftShape) (none : faults d ≡ []) where
-  reader_is : (n : ℕ) (i : Node) → reader (resolved d) n ≡ Some i → IsOf (declarations d.items) 0 d.items n i
+  pub reader_is : (n : ℕ) (i : Node) → reader (resolved d) n ≡ Some i → IsOf (declarations d.items) 0 d.items n i
   reader_is n i e = reader_of (declarations d.items) 0 d.items n i (all_pass d none) e
 
-  passing : (k : ℕ) (w : WrittenItem) → item_faults (declarations d.items) k w ≡ [] → form_faults (declarations d.items) k w.form ≡ []
+  pub passing : (k : ℕ) (w : WrittenItem) → item_faults (declarations d.items) k w ≡ [] → form_faults (declarations d.items) k w.form ≡ []
   passing k w none = nothing_right (item_too_many k w ++ second_item (declarations d.items) k w) (form_faults (declarations d.items) k w.form) none
 
   reads_at : (n : ℕ) (i : Node) → reader (resolved d) n ≡ Some i → Every (ReadsWell d (bound_of (resolved d) n i)) (reads_in_node i)

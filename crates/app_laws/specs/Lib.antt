@@ -1,6 +1,7 @@
 pub mod Recorded
 pub mod AskedLaws
 pub mod Orderly
+pub mod Statements
 pub mod AppLaws
 pub mod Proper
 pub mod KeyedLaws

@@ -4,6 +4,7 @@ ghost use Rattle.app_laws.specs.AppLaws.{WellFormedIsOrderly};
 ghost use Rattle.app_laws.specs.AskedLaws.{EqualAnswersGiveEqual};
 ghost use Rattle.app_laws.specs.KeyedExamples.{KeysCover, KeysHaveValues, BodyComesToSum, ValuesSaySum, KeyStops};
 ghost use Rattle.app_laws.specs.KeyedLaws.{CoveredBodyIsKeyed, EqualKeysGiveEqual, KeysComeFirst};
+ghost use Rattle.app_laws.specs.Statements.{StatementsFit};
 
 /// Equal answers to what an evaluation asks give an equal evaluation.
 #[tactic(auto, using(crate::proofs::Agreeing::equal_answers_give_equal))]
@@ -16,6 +17,13 @@ pub fn evaluation_laws()
 #[tactic(auto, using(crate::proofs::WellOrdered::well_formed_is_orderly))]
 pub fn app_laws()
     ensures { WellFormedIsOrderly }
+{}
+
+/// In each well-formed app the statements of observers set, freeze and update the app's own sources, and start its tasks with
+/// as many arguments as these have parameters.
+#[tactic(auto, using(crate::proofs::Statements::statements_fit))]
+pub fn statement_laws()
+    ensures { StatementsFit }
 {}
 
 /// A cached reader comes to the first failure of its keys, or else to what its body comes to. Where the keys cover

@@ -6,4 +6,4 @@
 
 mod laws;
 
-pub use laws::{app_laws, cover_laws, evaluation_laws, keyed_examples};
+pub use laws::{app_laws, cover_laws, evaluation_laws, keyed_examples, statement_laws};

@@ -1,1 +1,2 @@
 pub mod LeavesGivenUp
+pub mod TermsWithin

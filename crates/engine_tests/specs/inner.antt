@@ -1,2 +1,3 @@
 -- The vocabulary of tests alone.
 pub mod PlainAnswering
+pub mod ObserverReads

@@ -1,21 +1,14 @@
 ghost use Rattle.std.specs.Prelude.{◌≡◌, []};
 
-use crate::samples::value_of;
+use crate::samples::key_of;
 use app_check::load;
 use book_asker::BookAsker;
 use cache_book::Book;
-use rx_value::{Key, Memory, Values};
+use rx_value::{Key, Memory};
 use std::alloc::Global;
 use std::process::Abort;
 use std::test::Fail;
 use term_eval::{Asked, Asker, NoCache};
-
-/// The key of reader 0 by one value.
-fn key_of(alloc: Global, words: &str) -> Result<Key, Memory> {
-    let mut parts = Values::new(alloc);
-    parts.push(value_of(alloc, words)?)?;
-    Ok(Key { node: 0, parts })
-}
 
 /// Claims a key of which nothing is kept, and gives it up.
 fn give_up<A: Asker>(rt: &impl Abort, alloc: Global, asker: &mut A, key: &Key) -> Result<(), Memory>
@@ -37,8 +30,8 @@ fn give_up_each<A: Asker>(rt: &impl Abort, alloc: Global, asker: &mut A) -> Resu
     requires { A.out asker.old ≡ [] }
     ensures { A.out asker.new ≡ [] }
 {
-    let one = key_of(alloc, "1")?;
-    let text = key_of(alloc, "one")?;
+    let one = key_of(alloc, 0, "1")?;
+    let text = key_of(alloc, 0, "one")?;
     give_up(rt, alloc, asker, &one)?;
     give_up(rt, alloc, asker, &one)?;
     give_up(rt, alloc, asker, &text)?;

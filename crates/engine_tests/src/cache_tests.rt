@@ -1,9 +1,10 @@
 use crate::playing::{Step, play};
+use crate::samples::key_of;
 use crate::watched::{Counts, Watched};
 use app_check::load;
 use book_asker::BookAsker;
 use cache_book::{Book, BookClaim};
-use rx_value::{Key, Memory, Outcome, Value, Values};
+use rx_value::{Outcome, Value};
 use std::alloc::Global;
 use std::process::Abort;
 use std::sync::Arc;
@@ -172,13 +173,6 @@ fn a_plot_takes_its_last_step_after_the_cache(rt: HostRuntime) -> Result<(), Fai
     play_in_turn(&rt, rt.alloc(), &PLOTTED)
 }
 
-/// The key of a reader by one number.
-fn key_of(alloc: Global, node: u32, number: i64) -> Result<Key, Memory> {
-    let mut parts = Values::new(alloc);
-    parts.push(Value::Int(number))?;
-    Ok(Key { node, parts })
-}
-
 #[test]
 fn a_cache_holds_what_a_plot_made_no_picture_of(rt: HostRuntime) -> Result<(), Fail> {
     let alloc = rt.alloc();
@@ -188,7 +182,7 @@ fn a_cache_holds_what_a_plot_made_no_picture_of(rt: HostRuntime) -> Result<(), F
     let played = play(&rt, alloc, &app, &mut asker, PLOTTED.first);
     asker.finish();
     played?;
-    let key = key_of(alloc, 0, 1)?;
+    let key = key_of(alloc, 0, "1")?;
     let BookClaim::Hit(kept) = book.claim(alloc, &key, 1) else {
         panic!(rt; "no outcome is kept")
     };

@@ -18,6 +18,8 @@ mod lookup;
 #[cfg(test)]
 mod memory_tests;
 #[cfg(test)]
+mod observer_tests;
+#[cfg(test)]
 mod plain_reader;
 #[cfg(test)]
 mod playing;
@@ -25,5 +27,7 @@ mod playing;
 mod samples;
 #[cfg(test)]
 mod session_tests;
+#[cfg(test)]
+mod turn_tests;
 #[cfg(test)]
 mod watched;

@@ -4,7 +4,7 @@ ghost use Rattle.std.specs.Prelude.{◌≡◌, true, IfOk};
 ghost use Rattle.app_tree.specs.View.{shape_of};
 ghost use Rattle.app_tree.specs.Cover.{is_sound};
 
-use crate::playing::{Step, play_again};
+use crate::playing::{Round, Step, play_again, play_rounds_again};
 use app_check::{LoadError, load};
 use app_tree::App;
 use book_asker::BookAsker;
@@ -118,5 +118,33 @@ fn a_refused_call_leaves_no_leave_without_a_cache(rt: HostRuntime) -> Result<(),
     for case in &CASES {
         play_plain(&rt, rt.alloc(), case)?;
     }
+    Ok(())
+}
+
+/// Two sessions in turn over a cache of one entry.
+const IN_TURN: [Round<'static>; 2] = [
+    Round {
+        x: &[Step::Run("o", "'10")],
+        y: &[Step::SetAny("a", "2"), Step::Run("o", "'20")],
+    },
+    Round {
+        x: &[Step::SetAny("a", "2"), Step::Run("o", "'20")],
+        y: &[Step::SetAny("a", "1"), Step::Run("o", "'10")],
+    },
+];
+
+#[test]
+fn a_refused_call_of_two_sessions_leaves_no_leave(rt: HostRuntime) -> Result<(), Fail> {
+    let alloc = rt.alloc();
+    let file = "input a = 1; reactive e cache (input$a) { paste0(input$a * 10) } text o { e() }";
+    let app = app_again(alloc, file)?;
+    let mut book = match Book::new(alloc, 1, 10_000) {
+        Ok(book) => book,
+        Err(Memory) => Book::new(alloc, 1, 10_000)?,
+    };
+    let mut asker = BookAsker::new(&app, &mut book);
+    let played = play_rounds_again(&rt, alloc, &app, &mut asker, &IN_TURN);
+    asker.finish();
+    played?;
     Ok(())
 }

@@ -1,7 +1,7 @@
 //! What the cases of the tests are made of: values and outcomes from words, and the names of readers.
 
 use app_tree::App;
-use rx_value::{Memory, Outcome, RxText, Value};
+use rx_value::{Key, Memory, Outcome, RxText, Value, Values};
 use std::alloc::Global;
 
 /// The value that some words stand for: `NULL`, `TRUE`, `FALSE`, a number, or else a text, which may
@@ -52,4 +52,11 @@ pub fn names_of(alloc: Global, app: &App, readers: &[u32]) -> Result<String, Mem
         add_name(&mut names, app.reader_name(*n))?;
     }
     Ok(names)
+}
+
+/// The key of a reader by one value.
+pub fn key_of(alloc: Global, node: u32, words: &str) -> Result<Key, Memory> {
+    let mut parts = Values::new(alloc);
+    parts.push(value_of(alloc, words)?)?;
+    Ok(Key { node, parts })
 }

@@ -1,14 +1,8 @@
-use crate::lookup::{input_named, observer_named};
 use crate::playing::{Step, play};
-use crate::samples::names_of;
 use crate::watched::{NOTHING, Watched};
 use app_check::load;
 use book_asker::BookAsker;
 use cache_book::Book;
-use dep_graph::Marked;
-use react_session::Session;
-use rx_source::Change;
-use rx_value::{SourceValue, Value};
 use std::alloc::Global;
 use std::process::Abort;
 use std::sync::Arc;
@@ -250,26 +244,18 @@ fn outputs_come_to_each_outcome(rt: HostRuntime) -> Result<(), Fail> {
     play_both(&rt, rt.alloc(), file, &ENDINGS)
 }
 
+const OPERATORS: [Step<'static>; 6] = [
+    Step::Run("over", "! number out of range"),
+    Step::Run("quotient", "-4"),
+    Step::Run("rest", "1"),
+    Step::Run("least", "! number out of range"),
+    Step::Run("least_rest", "0"),
+    Step::Alive("over quotient rest least least_rest"),
+];
+
 #[test]
-fn an_observer_runs_from_begin_to_finish(rt: HostRuntime) -> Result<(), Fail> {
-    let alloc = rt.alloc();
-    let file = b"input a = 1; observe w { do input$a; } observe z { }";
-    let app = Arc::new(alloc, load(alloc, file)?)?;
-    let mut session = Session::new(alloc, app.clone()?)?;
-    let Some(w) = observer_named(&app, "w") else {
-        panic!(rt; "no observer w")
-    };
-    let Some(a) = input_named(&app, "a") else {
-        panic!(rt; "no input a")
-    };
-    assert!(rt; !session.ran(w) && !session.alive(w));
-    session.begin(w);
-    assert!(rt; session.ran(w) && session.alive(w));
-    let mut marked = Marked::new(alloc, app.readers())?;
-    let change = session.write(a, SourceValue::Plain(Value::Int(2)), &mut marked);
-    assert_eq!(rt; change, Change::Changed);
-    assert_eq!(rt; names_of(alloc, &app, marked.as_slice())?.as_str(), "");
-    assert!(rt; session.finish(w));
-    assert!(rt; session.ran(w) && session.alive(w));
-    Ok(())
+fn numbers_stay_in_their_range(rt: HostRuntime) -> Result<(), Fail> {
+    let file =
+        "text over { 9223372036854775807 + 1 } text quotient { -7 %/% 2 } text rest { -7 %% 2 } text least { (-9223372036854775807 - 1) %/% -1 } text least_rest { (-9223372036854775807 - 1) %% -1 }";
+    play_both(&rt, rt.alloc(), file, &OPERATORS)
 }

@@ -1,4 +1,7 @@
-pub mod State
-pub mod Built
+pub mod Waits
+pub mod Jobs
+pub mod Reports
 pub mod Flushing
+pub mod Working
+pub mod Keeping
 pub mod inner

@@ -1,30 +1,25 @@
-//! The events of one session: what a client message sets, the flush after it, and the texts that it
-//! sends.
-//!
-//! Today's body is the plain one: it keeps for each output the list of the sources that its last run
-//! read, and scans all outputs at each change.
+//! One session's events: what a client message or the end of a task sets, the flush that follows, and the texts that tell it.
 #![tactic(auto)]
 
-mod apply;
-mod change;
-mod event;
+mod applying;
+mod events;
 mod flushed;
 mod flusher;
 mod flushing;
-mod forms;
-mod names;
-mod running;
-mod sizes;
+mod observing;
+mod output;
+mod report;
+mod runs;
 mod stage;
-mod start;
-mod taken;
+mod starting;
+mod statements;
 mod targets;
+mod tasks;
+mod telling;
 mod texts;
-mod waiting;
+mod work;
 
-pub use flushed::Flushed;
+pub use flushed::{Flushed, Texts};
 pub use flusher::Flusher;
-pub use forms::built;
+pub use report::{Numbers, Report};
 pub use stage::Stage;
-pub use taken::read_taken;
-pub use texts::Texts;

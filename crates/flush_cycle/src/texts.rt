@@ -1,24 +1,16 @@
+//! The texts that an event sends.
+
 ghost use Rattle.std.specs.Prelude.{◌≡◌, ◌++◌, IfOk, OnOk};
 ghost use Rattle.session_model.specs.Texts.{output_texts};
-ghost use Rattle.flush_cycle.specs.inner.PassTexts.{outputs_texts, closing_pass, pass_texts, first_pass, later_pass};
+ghost use Rattle.flush_cycle.specs.inner.Passing.{outputs_texts, closing_made, texts_made, first_made, later_made};
 
-use crate::flushing::Pass;
-use rx_value::{Memory, RxList, RxText};
+use crate::flushed::Texts;
+use crate::report::Made;
+use rx_value::{Memory, RxText};
 use shiny_json::{
-    Batch, BatchOutput, BatchOutputs, Messages, write_busy, write_config, write_progress,
-    write_recalc, write_values,
+    Batch, BatchOutput, write_busy, write_config, write_progress, write_recalc, write_values,
 };
 use std::alloc::Global;
-
-/// The texts of an event, in the order in which they are sent.
-pub type Texts = RxList<RxText>;
-
-/// What an event sends, and whether its flush spent the budget, which ends the session.
-#[derive(Debug, Drop)]
-pub struct EventTexts {
-    pub texts: Texts,
-    pub spent: bool,
-}
 
 fn push_output(alloc: Global, name: &RxText, texts: &mut Texts) -> Result<(), Memory>
     ensures { OnOk result (texts.new ≡ texts.old ++ output_texts name.now) }
@@ -37,51 +29,41 @@ fn push_outputs(alloc: Global, outputs: &[BatchOutput], texts: &mut Texts) -> Re
     Ok(())
 }
 
-fn push_closing(
-    alloc: Global,
-    outputs: BatchOutputs,
-    spent: bool,
-    texts: &mut Texts,
-) -> Result<(), Memory>
-    ensures { OnOk result (texts.new ≡ texts.old ++ closing_pass outputs spent) }
+fn push_closing(alloc: Global, batch: &Batch, done: bool, texts: &mut Texts) -> Result<(), Memory>
+    ensures { OnOk result (texts.new ≡ texts.old ++ closing_made batch.now done) }
 {
-    if spent {
+    if !done {
         return Ok(());
     }
-    let batch = Batch {
-        outputs,
-        messages: Messages::new(alloc),
-    };
-    texts.push(write_values(alloc, &batch)?)?;
+    texts.push(write_values(alloc, batch)?)?;
     texts.push(write_busy(alloc, false)?)
 }
 
-fn push_pass(alloc: Global, pass: Pass, texts: &mut Texts) -> Result<(), Memory>
-    ensures { OnOk result (texts.new ≡ texts.old ++ pass_texts pass.outputs pass.spent) }
+fn push_made(alloc: Global, batch: &Batch, done: bool, texts: &mut Texts) -> Result<(), Memory>
+    ensures { OnOk result (texts.new ≡ texts.old ++ texts_made batch.now done) }
 {
-    let Pass { outputs, spent } = pass;
     texts.push(write_busy(alloc, true)?)?;
-    push_outputs(alloc, outputs.as_slice(), texts)?;
-    push_closing(alloc, outputs, spent, texts)
+    push_outputs(alloc, batch.outputs.as_slice(), texts)?;
+    push_closing(alloc, batch, done, texts)
 }
 
-/// The texts of a session's first event.
-pub fn first_texts(alloc: Global, label: &RxText, pass: Pass) -> Result<Texts, Memory>
-    ensures { IfOk result (λ texts. texts ≡ first_pass label.now pass.outputs pass.spent) }
+/// The texts of a session's first event. Where the event ended the session, the values are left out.
+pub fn first_texts(alloc: Global, label: &RxText, made: &Made, done: bool) -> Result<Texts, Memory>
+    ensures { IfOk result (λ texts. texts ≡ first_made label.now made.now.batch done) }
 {
     let mut texts = Texts::new(alloc);
     texts.push(write_config(alloc, label)?)?;
-    push_pass(alloc, pass, &mut texts)?;
+    push_made(alloc, &made.batch, done, &mut texts)?;
     Ok(texts)
 }
 
 /// The texts of a later event: none where nothing ran and the session goes on.
-pub fn later_texts(alloc: Global, pass: Pass) -> Result<Texts, Memory>
-    ensures { IfOk result (λ texts. texts ≡ later_pass pass.outputs pass.spent) }
+pub fn later_texts(alloc: Global, made: &Made, done: bool) -> Result<Texts, Memory>
+    ensures { IfOk result (λ texts. texts ≡ later_made made.now.runs made.now.batch done) }
 {
     let mut texts = Texts::new(alloc);
-    if pass.outputs.len() > 0 || pass.spent {
-        push_pass(alloc, pass, &mut texts)?;
+    if made.runs.len() > 0 || !done {
+        push_made(alloc, &made.batch, done, &mut texts)?;
     }
     Ok(texts)
 }

@@ -31,8 +31,8 @@ impl Session {
     }
 
     /// What an expression comes to. Where it isn't alive, it is run first, and before it each expression that it wants and that
-    /// isn't alive. Bodies are run for exactly those that are run and have no keys, or have keys that all came to values of
-    /// which the asker knew no outcome.
+    /// isn't alive. Of those that are run, each without keys has its body evaluated. Where the keys of a cached one all come to
+    /// values, the asker may know the outcome, and then the body is not evaluated; where it is, a claim of the key gave a Leave.
     ///
     /// The outcome is that of evaluating the expression afresh on the current values, where each isolated site keeps what its
     /// reader's last run saw (`session_steps`, `stand_laws`). After want of memory only `source`, `alive` and `ran` may be

@@ -4,22 +4,18 @@ use Rattle.std.proofs.lemmas.Bool.Decides.{nat_tests}
 use lib.ListN.{length-replicate}
 use Rattle.std.specs.Fmt.{digits}
 use Rattle.serde_json.proofs.OnLiterals.{serde_json_on_literals}
-use Rattle.app_tree.specs.Tree.{Shape}
+use Rattle.rx_ports.specs.Link.{Script}
+use Rattle.rx_ports.specs.declared.link.LinkItem.{LinkItem}
+use Rattle.rx_ports.specs.declared.link.LinkItem.TheVariants as item
 use Rattle.session_model.specs.declared.event.Event.{Event}
 use Rattle.session_model.specs.declared.event.Event.TheVariants.{Text}
 use Rattle.session_model.specs.declared.reason.Reason.{Reason}
 use Rattle.session_model.specs.State.{first_state}
 use Rattle.session_model.specs.Journal.{text_bytes, is_full}
 use Rattle.session_model.specs.Alone.{JournalResult, first_result, after_event, texts_of_event, result_from, answers_from, answers, ending}
-use Rattle.session_model.specs.Faithful.{LinkItem, text_item, LinkTexts, client_items, EachOfRunning, EndsOnlyLast, has_end, TextsAreFaithful}
-use Rattle.session_model.specs.FaithfulExamples.{empty_app, init, update, config, busy, no_values, idle, OpenIsFaithful, EndedIsFaithful, LinkFailedIsFaithful, RefusedIsFaithful, BudgetSpentIsFaithful, ObserverFailedIsFaithful, JournalFullIsFaithful, MemoryIsFaithful, LinkMemoryIsFaithful, SilentLinkIsFaithful, WithheldText, UncountedFault, ShortJournal, EarlyEnd, EndOfAnotherInvocation, EventBehindTheEnd, OpenBehindTheEnd, FailureBehindARefusal, FailureBehindTheEnd}
+use Rattle.session_model.specs.Faithful.{client_items, EachOfRunning, EndsOnlyLast, has_end}
+use Rattle.session_model.specs.FaithfulExamples.{empty_app, init, update, config, busy, no_values, idle, OpenIsFaithful, EndedIsFaithful, LinkFailedIsFaithful, RefusedIsFaithful, BudgetSpentIsFaithful, ObserverFailedIsFaithful, JournalFullIsFaithful, MemoryIsFaithful, LinkMemoryIsFaithful, RealLinkIsFaithful, WithheldText, UnjournaledItem, UncountedFault, ShortJournal, EarlyEnd, EndOfAnotherInvocation, EventBehindTheEnd, OpenBehindTheEnd, FailureBehindARefusal, FailureBehindTheEnd}
 use Rattle.session_model.specs.declared.limits.TheConstants.{EVENT_LIMIT, JOURNAL_TEXT_LIMIT}
-
--- what is said of the texts of a link is said of these
-texts_by : (app : Shape) (label : List ℕ) (journal : List Event) (why : Option Reason) (t : LinkTexts) → TextsAreFaithful app label t journal why → (texts : LinkTexts) → Some t ≡ Some texts → TextsAreFaithful app label texts journal why
-texts_by app label journal why t h texts e =
-    let same : t ≡ texts = cc in
-    subst (λ (x : LinkTexts). TextsAreFaithful app label x journal why) same h
 
 not_both : {b : Bool} → b ≡ true → b ≡ false → ⊥
 not_both p q = cc
@@ -34,7 +30,9 @@ open_is_faithful = record {
   ends = refl;
   fault = λ e. cc;
   full = λ e. cc;
-  texts = texts_by _ _ _ _ _ (record { received = refl; sent = refl; ended = λ e. cc });
+  received = refl;
+  sent = refl;
+  ended = λ e. cc;
 }
 
 pub ended_is_faithful : EndedIsFaithful
@@ -45,7 +43,9 @@ ended_is_faithful = record {
   ends = refl;
   fault = λ e. cc;
   full = λ e. cc;
-  texts = texts_by _ _ _ _ _ (record { received = refl; sent = refl; ended = λ e. (refl, refl) });
+  received = refl;
+  sent = refl;
+  ended = λ e. refl;
 }
 
 pub link_failed_is_faithful : LinkFailedIsFaithful
@@ -56,7 +56,9 @@ link_failed_is_faithful = record {
   ends = refl;
   fault = λ e. omega arith;
   full = λ e. cc;
-  texts = texts_by _ _ _ _ _ (record { received = refl; sent = record { rest = busy ∷ no_values ∷ idle ∷ []; is = refl }; ended = λ e. cc });
+  received = refl;
+  sent = record { rest = busy ∷ no_values ∷ idle ∷ []; is = refl };
+  ended = λ e. cc;
 }
 
 pub refused_is_faithful : RefusedIsFaithful
@@ -67,7 +69,9 @@ refused_is_faithful = record {
   ends = refl;
   fault = λ e. cc;
   full = λ e. cc;
-  texts = texts_by _ _ _ _ _ (record { received = refl; sent = refl; ended = λ e. cc });
+  received = refl;
+  sent = refl;
+  ended = λ e. cc;
 }
 
 pub budget_spent_is_faithful : BudgetSpentIsFaithful
@@ -78,7 +82,9 @@ budget_spent_is_faithful = record {
   ends = refl;
   fault = λ e. cc;
   full = λ e. cc;
-  texts = texts_by _ _ _ _ _ (record { received = refl; sent = refl; ended = λ e. cc });
+  received = refl;
+  sent = refl;
+  ended = λ e. cc;
 }
 
 pub observer_failed_is_faithful : ObserverFailedIsFaithful
@@ -89,7 +95,9 @@ observer_failed_is_faithful = record {
   ends = refl;
   fault = λ e. cc;
   full = λ e. cc;
-  texts = texts_by _ _ _ _ _ (record { received = refl; sent = refl; ended = λ e. cc });
+  received = refl;
+  sent = refl;
+  ended = λ e. cc;
 }
 
 pub memory_is_faithful : MemoryIsFaithful
@@ -100,7 +108,9 @@ memory_is_faithful = record {
   ends = tt;
   fault = λ e. cc;
   full = λ e. cc;
-  texts = texts_by _ _ _ _ _ (record { received = refl; sent = inr refl; ended = λ e. cc });
+  received = refl;
+  sent = inr refl;
+  ended = λ e. cc;
 }
 
 pub link_memory_is_faithful : LinkMemoryIsFaithful
@@ -111,18 +121,22 @@ link_memory_is_faithful = record {
   ends = refl;
   fault = λ e. cc;
   full = λ e. cc;
-  texts = texts_by _ _ _ _ _ (record { received = refl; sent = record { rest = no_values ∷ idle ∷ []; is = refl }; ended = λ e. cc });
+  received = refl;
+  sent = record { rest = no_values ∷ idle ∷ []; is = refl };
+  ended = λ e. cc;
 }
 
-pub silent_link_is_faithful : SilentLinkIsFaithful
+pub real_link_is_faithful : RealLinkIsFaithful
 unfolding serde_json_on_literals digits
-silent_link_is_faithful = record {
+real_link_is_faithful = record {
   running = (tt, (tt, tt));
   last = tt;
   ends = refl;
   fault = λ e. cc;
   full = λ e. cc;
-  texts = λ t e. cc;
+  received = refl;
+  sent = refl;
+  ended = λ e. cc;
 }
 
 -- ---- a full journal: one update leaves the session as it is but for the count of items, and so do as many as you like
@@ -165,9 +179,9 @@ updates_running : (n : ℕ) (r : JournalResult) → EachOfRunning empty_app r (u
 updates_running zero r = tt
 updates_running (suc n) r = (tt, updates_running n (after_event empty_app r (Text update)))
 
-updates_items : (n : ℕ) → client_items (updates n) ≡ replicate n (text_item update)
+updates_items : (n : ℕ) → client_items (updates n) ≡ replicate n (item.Text update)
 updates_items zero = refl
-updates_items (suc n) = ap (λ (items : List LinkItem). text_item update ∷ items) (updates_items n)
+updates_items (suc n) = ap (λ (items : List LinkItem). item.Text update ∷ items) (updates_items n)
 
 updates_last : (n : ℕ) → EndsOnlyLast (updates n)
 updates_last zero = tt
@@ -202,18 +216,19 @@ journal_full_is_faithful n many = record {
   ends = full_ending n;
   fault = λ e. cc;
   full = λ e. full_by_events (Text init ∷ updates n) (many_events n many);
-  texts = texts_by _ _ _ _ _ (record {
-    received = ap (λ (items : List LinkItem). text_item init ∷ items) (updates_items n);
-    sent = sym (full_answers n);
-    ended = λ e. absurd (not_both e (updates_no_end n));
-  });
+  received = ap (λ (items : List LinkItem). item.Text init ∷ items) (updates_items n);
+  sent = sym (full_answers n);
+  ended = λ e. absurd (not_both e (updates_no_end n));
 }
 
 -- ---- journals that are not faithful
 
 pub withheld_text : WithheldText
 unfolding serde_json_on_literals digits
-withheld_text f = let sent = (f.texts _ refl).sent in cc
+withheld_text f = let sent = f.sent in cc
+
+pub unjournaled_item : UnjournaledItem
+unjournaled_item f = let received = f.received in cc
 
 pub uncounted_fault : UncountedFault
 uncounted_fault f = let one = f.fault refl in omega arith
@@ -222,7 +237,7 @@ pub short_journal : ShortJournal
 short_journal f = let full = f.full refl in cc
 
 pub early_end : EarlyEnd
-early_end f = let ended = ((f.texts _ refl).ended refl).0 in cc
+early_end f = not_both (ap (λ (script : Script). script.ended) (f.ended refl)) refl
 
 pub end_of_another_invocation : EndOfAnotherInvocation
 unfolding serde_json_on_literals digits

@@ -1,6 +1,9 @@
 -- What it means that a session's journal is the true record of it: of what its link gave, of what was sent over it, and
 -- of why it is over.
-use Rattle.std.specs.Prelude.{◌≡◌, ◌⊎◌, ◌<◌, ⊤, ℕ, Bool, true, false, List, [], ◌∷◌, ◌++◌, Option, Some, None}
+use Rattle.std.specs.Prelude.{◌≡◌, ◌⊎◌, ◌<◌, ⊤, ℕ, Bool, true, false, List, [], ◌∷◌, ◌++◌, Option, Some, None, IfSome}
+use Rattle.rx_ports.specs.Link.{Script}
+use Rattle.rx_ports.specs.declared.link.LinkItem.{LinkItem}
+use Rattle.rx_ports.specs.declared.link.LinkItem.TheVariants as item
 use Rattle.app_tree.specs.Tree.{Shape}
 use Rattle.session_model.specs.declared.event.Event.{Event}
 use Rattle.session_model.specs.declared.event.Event.TheVariants.{Text, Other, TaskEnd, End}
@@ -13,31 +16,21 @@ use Rattle.session_model.specs.Alone.{Ending, ended, refused, budget_spent, obse
 
 -- ---- a link
 
--- an item that a client sent
-pub data LinkItem : Type 0 where
-  text_item : List ℕ → LinkItem
-  other_item : LinkItem
-
--- what a link tells: the items that it gave, those that are left of its script, whether the script has ended, and the
--- texts that were sent over it
-pub record LinkTexts : Type 0 where
-  pub received : List LinkItem
-  pub left : List LinkItem
-  pub ended : Bool
-  pub sent : List (List ℕ)
-
--- its label, its count of faults, and its texts, if it tells them
+-- its label, its count of faults, the items that it gave and the texts that were sent over it; and, where that is told, what is
+-- left of its client's script
 pub record LinkRecord : Type 0 where
   pub label : List ℕ
   pub faults : ℕ
-  pub texts : Option LinkTexts
+  pub received : List LinkItem
+  pub sent : List (List ℕ)
+  pub script : Option Script
 
 -- ---- the journal
 
 abbrev pub client_items : List Event → List LinkItem
 client_items [] = []
-client_items (Text t ∷ more) = text_item t ∷ client_items more
-client_items (Other ∷ more) = other_item ∷ client_items more
+client_items (Text t ∷ more) = item.Text t ∷ client_items more
+client_items (Other ∷ more) = item.Other ∷ client_items more
 client_items (TaskEnd t number ∷ more) = client_items more
 client_items (End ∷ more) = client_items more
 
@@ -110,13 +103,6 @@ IsSent app label journal (Some reason.Memory) sent =
     (sent ≡ answers app label journal) ⊎ (sent ≡ answers app label (without_last journal))
 IsSent app label journal why sent = sent ≡ answers app label journal
 
--- what is said of a link that tells its texts
-pub record TextsAreFaithful (app : Shape) (label : List ℕ) (texts : LinkTexts) (journal : List Event)
-    (why : Option Reason) : Type 0 where
-  pub received : client_items journal ≡ texts.received
-  pub sent : IsSent app label journal why texts.sent
-  pub ended : has_end journal ≡ true → (texts.ended ≡ true) × (texts.left ≡ [])
-
 -- None stands for a session that is open
 pub record IsFaithful (app : Shape) (link : LinkRecord) (journal : List Event) (why : Option Reason) : Type 0 where
   pub running : EachOfRunning app (first_result app) journal
@@ -124,4 +110,6 @@ pub record IsFaithful (app : Shape) (link : LinkRecord) (journal : List Event) (
   pub ends : EndsFor why (ending app journal)
   pub fault : why ≡ Some reason.LinkFailed → 0 < link.faults
   pub full : why ≡ Some reason.JournalFull → is_full journal ≡ true
-  pub texts : (t : LinkTexts) → link.texts ≡ Some t → TextsAreFaithful app link.label t journal why
+  pub received : client_items journal ≡ link.received
+  pub sent : IsSent app link.label journal why link.sent
+  pub ended : has_end journal ≡ true → IfSome link.script (λ script. script ≡ record { left = []; ended = true })

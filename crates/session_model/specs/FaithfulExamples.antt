@@ -1,8 +1,11 @@
 -- Faithful journals, one for each way in which a session can be over, and journals that are not faithful.
-use Rattle.std.specs.Prelude.{ℕ, suc, pos, true, false, List, [], ◌∷◌, replicate, ◌≤◌, Some, None, codes}
+use Rattle.std.specs.Prelude.{ℕ, suc, pos, true, false, List, [], ◌∷◌, replicate, ◌≤◌, Option, Some, None, codes}
 use Rattle.rx_value.specs.declared.value.Value.TheVariants.{Int}
 use Rattle.rx_value.specs.declared.value.Value.TheVariants as v
 use Rattle.rx_value.specs.declared.operator.BinOp.TheVariants.{Add}
+use Rattle.rx_ports.specs.Link.{Script}
+use Rattle.rx_ports.specs.declared.link.LinkItem.{LinkItem}
+use Rattle.rx_ports.specs.declared.link.LinkItem.TheVariants as item
 use Rattle.shiny_json.specs.declared.message.BadMessage.TheVariants as bad
 use Rattle.app_tree.specs.declared.term.Read.TheVariants as read
 use Rattle.app_tree.specs.declared.term.Operator.TheVariants.{Strict}
@@ -10,7 +13,7 @@ use Rattle.app_tree.specs.Tree.{constant, get, stop, binary, no_trees, set, invo
 use Rattle.session_model.specs.declared.event.Event.TheVariants.{Text, Other, TaskEnd, End}
 use Rattle.session_model.specs.declared.limits.TheConstants.{EVENT_LIMIT}
 use Rattle.session_model.specs.declared.reason.Reason.TheVariants as reason
-use Rattle.session_model.specs.Faithful.{LinkItem, text_item, LinkTexts, LinkRecord, IsFaithful}
+use Rattle.session_model.specs.Faithful.{LinkRecord, IsFaithful}
 
 -- ---- apps
 
@@ -69,21 +72,22 @@ idle = codes "{\"busy\":\"idle\"}"
 
 -- ---- links
 
--- received these items and sent these texts; nothing is left, but the script has not ended
-abbrev pub open_link_texts : List LinkItem → List (List ℕ) → LinkTexts
-open_link_texts received sent = record { received = received; left = []; ended = false; sent = sent }
+-- gave these items, sent these texts, has so many faults, and tells this of its client's script
+abbrev pub link : ℕ → List LinkItem → List (List ℕ) → Option Script → LinkRecord
+link faults received sent script =
+    record { label = codes "s"; faults = faults; received = received; sent = sent; script = script }
+
+-- nothing is left, but the script has not ended
+abbrev pub open_link : ℕ → List LinkItem → List (List ℕ) → LinkRecord
+open_link faults received sent = link faults received sent (Some (record { left = []; ended = false }))
 
 -- the same where the script has ended
-abbrev pub ended_link_texts : List LinkItem → List (List ℕ) → LinkTexts
-ended_link_texts received sent = record { received = received; left = []; ended = true; sent = sent }
+abbrev pub ended_link : List LinkItem → List (List ℕ) → LinkRecord
+ended_link received sent = link 0 received sent (Some (record { left = []; ended = true }))
 
--- with so many faults
-abbrev pub link : ℕ → LinkTexts → LinkRecord
-link faults texts = record { label = codes "s"; faults = faults; texts = Some texts }
-
--- tells nothing
-abbrev pub silent_link : LinkRecord
-silent_link = record { label = codes "s"; faults = 0; texts = None }
+-- tells nothing of a script
+abbrev pub real_link : ℕ → List LinkItem → List (List ℕ) → LinkRecord
+real_link faults received sent = link faults received sent None
 
 -- ---- faithful journals
 
@@ -92,7 +96,7 @@ abbrev pub OpenIsFaithful : Type 0
 OpenIsFaithful =
     IsFaithful
     invoking_app
-    (link 0 (open_link_texts (text_item init ∷ []) (config ∷ busy ∷ no_values ∷ idle ∷ busy ∷ no_values ∷ idle ∷ [])))
+    (open_link 0 (item.Text init ∷ []) (config ∷ busy ∷ no_values ∷ idle ∷ busy ∷ no_values ∷ idle ∷ []))
     (Text init ∷ TaskEnd 0 1 ∷ [])
     None
 
@@ -100,7 +104,7 @@ abbrev pub EndedIsFaithful : Type 0
 EndedIsFaithful =
     IsFaithful
     empty_app
-    (link 0 (ended_link_texts (text_item init ∷ []) (config ∷ busy ∷ no_values ∷ idle ∷ [])))
+    (ended_link (item.Text init ∷ []) (config ∷ busy ∷ no_values ∷ idle ∷ []))
     (Text init ∷ End ∷ [])
     (Some reason.Ended)
 
@@ -109,7 +113,7 @@ abbrev pub LinkFailedIsFaithful : Type 0
 LinkFailedIsFaithful =
     IsFaithful
     empty_app
-    (link 1 (open_link_texts (text_item init ∷ []) (config ∷ [])))
+    (open_link 1 (item.Text init ∷ []) (config ∷ []))
     (Text init ∷ [])
     (Some reason.LinkFailed)
 
@@ -118,7 +122,7 @@ abbrev pub RefusedIsFaithful : Type 0
 RefusedIsFaithful =
     IsFaithful
     empty_app
-    (link 0 (open_link_texts (text_item (codes "[]") ∷ []) []))
+    (open_link 0 (item.Text (codes "[]") ∷ []) [])
     (Text (codes "[]") ∷ [])
     (Some (reason.Refused 1 bad.NotObject))
 
@@ -127,7 +131,7 @@ abbrev pub BudgetSpentIsFaithful : Type 0
 BudgetSpentIsFaithful =
     IsFaithful
     counting_app
-    (link 0 (open_link_texts (text_item init ∷ []) (config ∷ busy ∷ [])))
+    (open_link 0 (item.Text init ∷ []) (config ∷ busy ∷ []))
     (Text init ∷ [])
     (Some reason.BudgetSpent)
 
@@ -135,7 +139,7 @@ abbrev pub ObserverFailedIsFaithful : Type 0
 ObserverFailedIsFaithful =
     IsFaithful
     failing_app
-    (link 0 (open_link_texts (text_item init ∷ []) (config ∷ busy ∷ [])))
+    (open_link 0 (item.Text init ∷ []) (config ∷ busy ∷ []))
     (Text init ∷ [])
     (Some (reason.ObserverFailed (codes "bad")))
 
@@ -146,27 +150,32 @@ JournalFullIsFaithful =
     → EVENT_LIMIT ≤ suc n
     → IsFaithful
     empty_app
-    (link 0 (open_link_texts (text_item init ∷ replicate n (text_item update)) (config ∷ busy ∷ no_values ∷ idle ∷ [])))
+    (open_link 0 (item.Text init ∷ replicate n (item.Text update)) (config ∷ busy ∷ no_values ∷ idle ∷ []))
     (Text init ∷ replicate n (Text update))
     (Some reason.JournalFull)
 
 -- the init found no memory, so nothing was sent in answer to it
 abbrev pub MemoryIsFaithful : Type 0
 MemoryIsFaithful =
-    IsFaithful empty_app (link 0 (open_link_texts (text_item init ∷ []) [])) (Text init ∷ []) (Some reason.Memory)
+    IsFaithful empty_app (open_link 0 (item.Text init ∷ []) []) (Text init ∷ []) (Some reason.Memory)
 
 -- the third text found no memory
 abbrev pub LinkMemoryIsFaithful : Type 0
 LinkMemoryIsFaithful =
     IsFaithful
     empty_app
-    (link 0 (open_link_texts (text_item init ∷ []) (config ∷ busy ∷ [])))
+    (open_link 0 (item.Text init ∷ []) (config ∷ busy ∷ []))
     (Text init ∷ [])
     (Some reason.LinkMemory)
 
--- nothing is said of the texts of a link that tells none
-abbrev pub SilentLinkIsFaithful : Type 0
-SilentLinkIsFaithful = IsFaithful empty_app silent_link (Text init ∷ Other ∷ []) (Some (reason.Refused 2 bad.Other))
+-- nothing is said of the script of a link that tells of none
+abbrev pub RealLinkIsFaithful : Type 0
+RealLinkIsFaithful =
+    IsFaithful
+    empty_app
+    (real_link 0 (item.Text init ∷ item.Other ∷ []) (config ∷ busy ∷ no_values ∷ idle ∷ []))
+    (Text init ∷ Other ∷ [])
+    (Some (reason.Refused 2 bad.Other))
 
 -- ---- journals that are not faithful
 
@@ -175,9 +184,19 @@ abbrev pub WithheldText : Type 0
 WithheldText =
     IsFaithful
     empty_app
-    (link 0 (ended_link_texts (text_item init ∷ []) (config ∷ busy ∷ no_values ∷ [])))
+    (ended_link (item.Text init ∷ []) (config ∷ busy ∷ no_values ∷ []))
     (Text init ∷ End ∷ [])
     (Some reason.Ended)
+    → ⊥
+
+-- the link gave an item that isn't journaled
+abbrev pub UnjournaledItem : Type 0
+UnjournaledItem =
+    IsFaithful
+    empty_app
+    (real_link 0 (item.Text init ∷ item.Other ∷ []) (config ∷ busy ∷ no_values ∷ idle ∷ []))
+    (Text init ∷ [])
+    None
     → ⊥
 
 -- the link counts no fault
@@ -185,7 +204,7 @@ abbrev pub UncountedFault : Type 0
 UncountedFault =
     IsFaithful
     empty_app
-    (link 0 (open_link_texts (text_item init ∷ []) (config ∷ [])))
+    (open_link 0 (item.Text init ∷ []) (config ∷ []))
     (Text init ∷ [])
     (Some reason.LinkFailed)
     → ⊥
@@ -194,7 +213,7 @@ abbrev pub ShortJournal : Type 0
 ShortJournal =
     IsFaithful
     empty_app
-    (link 0 (open_link_texts (text_item init ∷ []) (config ∷ busy ∷ no_values ∷ idle ∷ [])))
+    (open_link 0 (item.Text init ∷ []) (config ∷ busy ∷ no_values ∷ idle ∷ []))
     (Text init ∷ [])
     (Some reason.JournalFull)
     → ⊥
@@ -204,27 +223,56 @@ abbrev pub EarlyEnd : Type 0
 EarlyEnd =
     IsFaithful
     empty_app
-    (link 0 (open_link_texts (text_item init ∷ []) (config ∷ busy ∷ no_values ∷ idle ∷ [])))
+    (open_link 0 (item.Text init ∷ []) (config ∷ busy ∷ no_values ∷ idle ∷ []))
     (Text init ∷ End ∷ [])
     (Some reason.Ended)
     → ⊥
 
--- the invocation that runs has number 1; and no texts of the link are needed to tell
+-- the invocation that runs has number 1
 abbrev pub EndOfAnotherInvocation : Type 0
-EndOfAnotherInvocation = IsFaithful invoking_app silent_link (Text init ∷ TaskEnd 0 2 ∷ []) None → ⊥
+EndOfAnotherInvocation =
+    IsFaithful
+    invoking_app
+    (real_link 0 (item.Text init ∷ []) (config ∷ busy ∷ no_values ∷ idle ∷ []))
+    (Text init ∷ TaskEnd 0 2 ∷ [])
+    None
+    → ⊥
 
 -- an event behind the end of the link
 abbrev pub EventBehindTheEnd : Type 0
-EventBehindTheEnd = IsFaithful empty_app silent_link (Text init ∷ End ∷ Other ∷ []) (Some reason.Ended) → ⊥
+EventBehindTheEnd =
+    IsFaithful
+    empty_app
+    (real_link 0 (item.Text init ∷ item.Other ∷ []) (config ∷ busy ∷ no_values ∷ idle ∷ []))
+    (Text init ∷ End ∷ Other ∷ [])
+    (Some reason.Ended)
+    → ⊥
 
 -- the link's end is in the journal of a session that is said to be open
 abbrev pub OpenBehindTheEnd : Type 0
-OpenBehindTheEnd = IsFaithful empty_app silent_link (Text init ∷ End ∷ []) None → ⊥
+OpenBehindTheEnd =
+    IsFaithful
+    empty_app
+    (ended_link (item.Text init ∷ []) (config ∷ busy ∷ no_values ∷ idle ∷ []))
+    (Text init ∷ End ∷ [])
+    None
+    → ⊥
 
 -- nothing is sent in answer to an item that is refused, so no link fails behind one
 abbrev pub FailureBehindARefusal : Type 0
 FailureBehindARefusal =
-    IsFaithful empty_app (record silent_link { faults = 1 }) (Text (codes "[]") ∷ []) (Some reason.LinkFailed) → ⊥
+    IsFaithful
+    empty_app
+    (real_link 1 (item.Text (codes "[]") ∷ []) [])
+    (Text (codes "[]") ∷ [])
+    (Some reason.LinkFailed)
+    → ⊥
 
 abbrev pub FailureBehindTheEnd : Type 0
-FailureBehindTheEnd = IsFaithful empty_app silent_link (Text init ∷ End ∷ []) (Some reason.LinkMemory) → ⊥
+FailureBehindTheEnd =
+    IsFaithful
+    empty_app
+    (ended_link (item.Text init ∷ []) (config ∷ busy ∷ no_values ∷ idle ∷ []))
+    (Text init ∷ End ∷ [])
+    (Some reason.LinkMemory)
+    → ⊥

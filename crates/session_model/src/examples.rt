@@ -1,7 +1,7 @@
 //! Worked examples of the definitions, which the check finds by computing.
 
 ghost use Rattle.session_model.specs.MissingExample.{CountsTheMissing};
-ghost use Rattle.session_model.specs.FaithfulExamples.{OpenIsFaithful, EndedIsFaithful, LinkFailedIsFaithful, RefusedIsFaithful, BudgetSpentIsFaithful, ObserverFailedIsFaithful, JournalFullIsFaithful, MemoryIsFaithful, LinkMemoryIsFaithful, SilentLinkIsFaithful, WithheldText, UncountedFault, ShortJournal, EarlyEnd, EndOfAnotherInvocation, EventBehindTheEnd, OpenBehindTheEnd, FailureBehindARefusal, FailureBehindTheEnd};
+ghost use Rattle.session_model.specs.FaithfulExamples.{OpenIsFaithful, EndedIsFaithful, LinkFailedIsFaithful, RefusedIsFaithful, BudgetSpentIsFaithful, ObserverFailedIsFaithful, JournalFullIsFaithful, MemoryIsFaithful, LinkMemoryIsFaithful, RealLinkIsFaithful, WithheldText, UnjournaledItem, UncountedFault, ShortJournal, EarlyEnd, EndOfAnotherInvocation, EventBehindTheEnd, OpenBehindTheEnd, FailureBehindARefusal, FailureBehindTheEnd};
 ghost use Rattle.session_model.specs.StandingExamples.{StateOfAnotherSize, OutputLeftOut, StaleOutput, OneSourceMore, StaleOutcome, RunningThatNeverRan};
 ghost use Rattle.session_model.specs.StepExamples.{EqualValue, OtherValue, ClientSets, ForgetsSites, RunsTheBudget, StaysEnded, FullOfEvents, FullOfBytes, LastLineTaken, LineTooMany};
 
@@ -14,7 +14,7 @@ pub fn counts_missing_readers()
 
 /// Does nothing: it is there for its contract. A faithful journal for each way in which a session can be over, and for one
 /// that is open.
-#[tactic(auto, using(crate::proofs::FaithfulComputed::open_is_faithful, crate::proofs::FaithfulComputed::ended_is_faithful, crate::proofs::FaithfulComputed::link_failed_is_faithful, crate::proofs::FaithfulComputed::refused_is_faithful, crate::proofs::FaithfulComputed::budget_spent_is_faithful, crate::proofs::FaithfulComputed::observer_failed_is_faithful, crate::proofs::FaithfulComputed::memory_is_faithful, crate::proofs::FaithfulComputed::link_memory_is_faithful, crate::proofs::FaithfulComputed::silent_link_is_faithful))]
+#[tactic(auto, using(crate::proofs::FaithfulComputed::open_is_faithful, crate::proofs::FaithfulComputed::ended_is_faithful, crate::proofs::FaithfulComputed::link_failed_is_faithful, crate::proofs::FaithfulComputed::refused_is_faithful, crate::proofs::FaithfulComputed::budget_spent_is_faithful, crate::proofs::FaithfulComputed::observer_failed_is_faithful, crate::proofs::FaithfulComputed::memory_is_faithful, crate::proofs::FaithfulComputed::link_memory_is_faithful, crate::proofs::FaithfulComputed::real_link_is_faithful))]
 pub fn faithful_examples()
     ensures open { OpenIsFaithful }
     ensures ended { EndedIsFaithful }
@@ -25,16 +25,17 @@ pub fn faithful_examples()
     ensures journal_full { JournalFullIsFaithful }
     ensures memory { MemoryIsFaithful }
     ensures link_memory { LinkMemoryIsFaithful }
-    ensures silent_link { SilentLinkIsFaithful }
+    ensures real_link { RealLinkIsFaithful }
 {}
 
 /// Does nothing: it is there for its contract. Journals that are not faithful: a text was withheld, a link is said to have
 /// failed that counts no fault, a short journal is said to be full, the link has not ended, an invocation ends that doesn't
 /// run, an event stands behind the link's end, a session is said to be open behind it, and a link is said to have failed behind
 /// a refusal or its end.
-#[tactic(auto, using(crate::proofs::FaithfulComputed::withheld_text, crate::proofs::FaithfulComputed::uncounted_fault, crate::proofs::FaithfulComputed::short_journal, crate::proofs::FaithfulComputed::early_end, crate::proofs::FaithfulComputed::end_of_another_invocation, crate::proofs::FaithfulComputed::event_behind_the_end, crate::proofs::FaithfulComputed::open_behind_the_end, crate::proofs::FaithfulComputed::failure_behind_a_refusal, crate::proofs::FaithfulComputed::failure_behind_the_end))]
+#[tactic(auto, using(crate::proofs::FaithfulComputed::withheld_text, crate::proofs::FaithfulComputed::unjournaled_item, crate::proofs::FaithfulComputed::uncounted_fault, crate::proofs::FaithfulComputed::short_journal, crate::proofs::FaithfulComputed::early_end, crate::proofs::FaithfulComputed::end_of_another_invocation, crate::proofs::FaithfulComputed::event_behind_the_end, crate::proofs::FaithfulComputed::open_behind_the_end, crate::proofs::FaithfulComputed::failure_behind_a_refusal, crate::proofs::FaithfulComputed::failure_behind_the_end))]
 pub fn unfaithful_examples()
     ensures text { WithheldText }
+    ensures item { UnjournaledItem }
     ensures fault { UncountedFault }
     ensures short { ShortJournal }
     ensures early { EarlyEnd }

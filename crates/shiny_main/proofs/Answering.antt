@@ -11,8 +11,8 @@ use Rattle.session_model.specs.Alone.{JournalResult, flushes, effect, effect_tex
 use Rattle.session_model.specs.Transcript.{Open, with_event, event_output, over_line, added_texts}
 use Rattle.session_model.specs.WrittenLines.{send_lines}
 use Rattle.session_laws.proofs.Journals.{journal_result-more, added_texts-more}
-use Rattle.flush_cycle.specs.declared.stage.Stage.TheVariants as stage
-use Rattle.flush_cycle.specs.Flushing.{FlushGives, flushed_by, stage_after}
+use Rattle.taken_cycle.specs.declared.stage.Stage.TheVariants as stage
+use Rattle.taken_cycle.specs.Flushing.{FlushGives, flushed_by, stage_after}
 use Rattle.shiny_main.specs.declared.session.OpenSession.{OpenSession}
 use Rattle.shiny_main.specs.declared.session.Answered.{Answered}
 use Rattle.shiny_main.specs.inner.Replaying.{EndsSo, HoldsOpen, budget_line, event_lines, AnswersText}

@@ -14,7 +14,7 @@ use Rattle.app_check.specs.declared.error.LoadError.{LoadError}
 use Rattle.app_check.specs.declared.error.LoadError.TheVariants as error
 use Rattle.app_check.specs.declared.limits.TheConstants.{FILE_LIMIT}
 use Rattle.app_check.specs.Load.{loaded, within_limit, is_short}
-use Rattle.flush_cycle.specs.Built.{first_unbuilt}
+use Rattle.taken_cycle.specs.Built.{first_unbuilt}
 use Rattle.session_model.specs.Transcript.{ReplayEnd, done, bad_line, no_session, replayed}
 use Rattle.session_model.specs.TakenLines.{replayed_today}
 use Rattle.session_laws.proofs.TakenReplay.{taken_is_whole}

@@ -14,8 +14,8 @@ use Rattle.session_model.specs.Transcript.{Line, recv, ends_of, Open, new_sessio
 use Rattle.session_model.specs.Journal.{text_bytes, is_full}
 use Rattle.session_model.specs.TakenLines.{is_first, is_of_one, is_taken, taken_pairs, taken_line}
 use Rattle.session_laws.proofs.TakenReplay.{taken_init, taken_update, taken_short}
-use Rattle.flush_cycle.specs.declared.stage.Stage.{Stage}
-use Rattle.flush_cycle.specs.declared.stage.Stage.TheVariants as stage
+use Rattle.taken_cycle.specs.declared.stage.Stage.{Stage}
+use Rattle.taken_cycle.specs.declared.stage.Stage.TheVariants as stage
 use Rattle.shiny_main.specs.declared.replay.Taken.{Taken}
 use Rattle.shiny_main.specs.declared.replay.Taken.TheVariants as code
 use Rattle.shiny_main.specs.declared.session.OpenSession.{OpenSession}

@@ -10,8 +10,8 @@ use Rattle.session_model.specs.TakenLines.{taken_line, taken_by}
 use Rattle.session_model.specs.Lines.{HasNoFeed, lines_of}
 use Rattle.session_model.specs.WrittenLines.{send_lines, over_text}
 use Rattle.session_laws.proofs.Journals.{journal_result-more, added_texts-more}
-use Rattle.flush_cycle.specs.declared.stage.Stage.{Stage}
-use Rattle.flush_cycle.specs.declared.stage.Stage.TheVariants as stage
+use Rattle.taken_cycle.specs.declared.stage.Stage.{Stage}
+use Rattle.taken_cycle.specs.declared.stage.Stage.TheVariants as stage
 use Rattle.shiny_main.specs.declared.session.OpenSession.{OpenSession}
 use Rattle.shiny_main.specs.declared.session.Answered.{Answered}
 use Rattle.rx_value.specs.declared.memory.Memory.{Memory}

@@ -12,7 +12,7 @@ use Rattle.app_printer.specs.Canonical.{canonical_text}
 use Rattle.app_printer.specs.Laws.{ReadsBack}
 use Rattle.session_model.specs.Transcript.{ReplayEnd, done, bad_line, no_session, replayed}
 use Rattle.session_model.specs.TakenLines.{replayed_today}
-use Rattle.flush_cycle.specs.Built.{first_unbuilt}
+use Rattle.taken_cycle.specs.Built.{first_unbuilt}
 use Rattle.shiny_main.specs.Ports.{Ports, IsUntouched}
 use Rattle.shiny_main.specs.SoFar.{HasWritten, replayed_so_far}
 use Rattle.shiny_main.specs.declared.words.Command.{Command}

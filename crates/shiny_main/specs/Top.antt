@@ -7,7 +7,7 @@ use Rattle.app_tree.specs.Tree.{Shape}
 use Rattle.app_check.specs.Load.{loaded}
 use Rattle.session_model.specs.Transcript.{done}
 use Rattle.session_model.specs.TakenLines.{replayed_today}
-use Rattle.flush_cycle.specs.Built.{IsBuilt}
+use Rattle.taken_cycle.specs.Built.{IsBuilt}
 use Rattle.shiny_main.specs.declared.words.Command.{Command}
 use Rattle.shiny_main.specs.declared.words.Command.TheVariants as command
 use Rattle.shiny_main.specs.declared.status.Status.{Status}

@@ -6,7 +6,7 @@ ghost use Rattle.app_tree.specs.View.{shape_of};
 ghost use Rattle.app_check.specs.Load.{loaded};
 ghost use Rattle.app_check.specs.Text.{refusal_text};
 ghost use Rattle.app_check.specs.Words.{has_words};
-ghost use Rattle.flush_cycle.specs.Built.{IsBuilt};
+ghost use Rattle.taken_cycle.specs.Built.{IsBuilt};
 ghost use Rattle.shiny_main.specs.Ports.{ports, CountsFaults};
 ghost use Rattle.shiny_main.specs.Commands.{IsMade, IsRefused, count_line, name_at, not_yet_text, ReplayedGives, RunsBuilt, CommandGives, AppGives};
 
@@ -16,11 +16,11 @@ use crate::words::Command;
 use app_check::{LoadError, load};
 use app_printer::print;
 use app_tree::App;
-use flush_cycle::built;
 use rx_ports::{Put, Sink, Source};
 use rx_value::{Memory, RxText};
 use std::alloc::Global;
 use std::sync::Arc;
+use taken_cycle::built;
 
 fn put_text<K: Sink>(text: Result<RxText, Memory>, out: &mut K) -> Ended
     ensures gives { IsMade text (K.held out.old) (K.held out.new) result }

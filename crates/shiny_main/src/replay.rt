@@ -2,19 +2,19 @@ ghost use Rattle.std.specs.Prelude.{List, [], ◌∷◌, Some, IfOk};
 ghost use Rattle.app_tree.specs.View.{shape_of};
 ghost use Rattle.session_model.specs.Transcript.{Open, recv};
 ghost use Rattle.session_model.specs.TakenLines.{taken_line};
-ghost use Rattle.flush_cycle.specs.Built.{IsBuilt};
+ghost use Rattle.taken_cycle.specs.Built.{IsBuilt};
 ghost use Rattle.shiny_main.specs.inner.Spoken.{numbered_line};
 ghost use Rattle.shiny_main.specs.inner.Replaying.{AnswersFirst, HoldsOpen, IsShort, Updates, TakesLine, TakesAsHeld};
 
 use crate::line::Line;
 use crate::session::{Answered, OpenSession, answer_first, answer_later};
 use app_tree::App;
-use flush_cycle::{Stage, read_taken};
 use rx_value::{Memory, RxText};
 use session_model::TAKEN_LINE_LIMIT;
 use shiny_json::ClientData;
 use std::alloc::Global;
 use std::sync::Arc;
+use taken_cycle::{Stage, read_taken};
 
 /// What a line of the transcript came to.
 #[derive(Drop)]

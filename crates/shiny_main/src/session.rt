@@ -1,16 +1,16 @@
 ghost use Rattle.std.specs.Prelude.{◌≡◌, ◌++◌, OnOk, IfOk, codes};
 ghost use Rattle.app_tree.specs.View.{shape_of};
 ghost use Rattle.session_model.specs.WrittenLines.{send_lines, over_text};
-ghost use Rattle.flush_cycle.specs.Built.{IsBuilt};
-ghost use Rattle.flush_cycle.specs.Flushing.{flushed_by};
+ghost use Rattle.taken_cycle.specs.Built.{IsBuilt};
+ghost use Rattle.taken_cycle.specs.Flushing.{flushed_by};
 ghost use Rattle.shiny_main.specs.inner.Replaying.{AnswersFirst, AnswersLater, event_lines};
 
 use app_tree::App;
-use flush_cycle::{Flushed, Flusher, Stage, Texts};
 use rx_value::{Memory, RxText};
 use shiny_json::ClientData;
 use std::alloc::Global;
 use std::sync::Arc;
+use taken_cycle::{Flushed, Flusher, Stage, Texts};
 
 /// A session of the transcript.
 #[derive(Drop)]

@@ -3,7 +3,7 @@ ghost use Rattle.app_tree.specs.View.{shape_of};
 ghost use Rattle.session_model.specs.Transcript.{Open};
 ghost use Rattle.session_model.specs.WrittenLines.{over_text};
 ghost use Rattle.shiny_main.specs.inner.Lines.{at_start, IsOfSource};
-ghost use Rattle.flush_cycle.specs.Built.{IsBuilt};
+ghost use Rattle.taken_cycle.specs.Built.{IsBuilt};
 ghost use Rattle.shiny_main.specs.Ports.{ports, CountsFaults};
 ghost use Rattle.shiny_main.specs.inner.Replaying.{HoldsSession, HasFewBehind, WholeReplayGives, PutsAnswer, PutsOver, ClosesOpen, Closes, AnswersTaken, TurnGives};
 
@@ -11,11 +11,11 @@ use crate::lines::{LineRead, Lines};
 use crate::replay::{Taken, take_line};
 use crate::session::{Answered, OpenSession, push_over};
 use app_tree::App;
-use flush_cycle::Stage;
 use rx_ports::{Put, Sink, Source};
 use rx_value::{Memory, RxText};
 use std::alloc::Global;
 use std::sync::Arc;
+use taken_cycle::Stage;
 
 /// How a replay ended. Lines are numbered from 1.
 #[derive(Clone, Copy, Debug, PartialEq, Eq)]

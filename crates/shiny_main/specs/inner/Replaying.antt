@@ -16,8 +16,8 @@ use Rattle.session_model.specs.Journal.{text_bytes}
 use Rattle.session_model.specs.Lines.{lines_of}
 use Rattle.session_model.specs.TakenLines.{taken_line, taken_by}
 use Rattle.session_model.specs.WrittenLines.{send_lines, over_text}
-use Rattle.flush_cycle.specs.declared.stage.Stage.{Stage}
-use Rattle.flush_cycle.specs.declared.stage.Stage.TheVariants as stage
+use Rattle.taken_cycle.specs.declared.stage.Stage.{Stage}
+use Rattle.taken_cycle.specs.declared.stage.Stage.TheVariants as stage
 use Rattle.shiny_main.specs.declared.session.OpenSession.{OpenSession}
 use Rattle.shiny_main.specs.declared.session.Answered.{Answered}
 use Rattle.shiny_main.specs.declared.replay.Taken.{Taken}

@@ -1,5 +1,5 @@
 use Rattle.std.proofs.Common.{◌≡◌, ◌++◌, drop}
-use Rattle.flush_cycle.specs.inner.PassTexts.{outputs_texts}
+use Rattle.flush_cycle.specs.inner.Passing.{outputs_texts}
 use Rattle.flush_cycle.proofs.texts.push_outputs.Given as goal
 
 abbrev pub invariant-loop-output : goal.invariant-loop-output

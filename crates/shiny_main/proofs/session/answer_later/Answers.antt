@@ -1,10 +1,10 @@
 use Rattle.std.proofs.Common.{◌∙◌, ap, subst, false}
 use Rattle.app_tree.specs.Tree.{Shape}
 use Rattle.app_tree.specs.View.{shape_of}
-use Rattle.flush_cycle.specs.declared.flushed.Flushed.{Flushed}
+use Rattle.taken_cycle.specs.declared.flushed.Flushed.{Flushed}
 use Rattle.session_model.specs.Texts.{later_texts}
 use Rattle.session_model.specs.Alone.{flush_with_pairs}
-use Rattle.flush_cycle.specs.Flushing.{FlushGives, stage_after}
+use Rattle.taken_cycle.specs.Flushing.{FlushGives, stage_after}
 use Rattle.shiny_main.specs.inner.Replaying.{event_lines}
 use Rattle.shiny_main.proofs.Answering.{answers_text, update_effect}
 use Rattle.shiny_main.proofs.session.answer_later.Goals as goal

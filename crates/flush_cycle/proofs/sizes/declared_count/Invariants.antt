@@ -1,6 +1,0 @@
-use Rattle.flush_cycle.specs.inner.Targets.{is_declared}
-use Rattle.flush_cycle.proofs.Counted.{Counted}
-use Rattle.flush_cycle.proofs.sizes.declared_count.Given as goal
-
-abbrev pub invariant-loop-item : goal.invariant-loop-item
-invariant-loop-item l = Counted is_declared l.items l.count l.item-index

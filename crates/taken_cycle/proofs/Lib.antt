@@ -1,0 +1,10 @@
+pub mod Sought
+pub mod Counted
+pub mod Building
+pub mod Replaced
+pub mod Thawing
+pub mod Applying
+pub mod Passing
+pub mod Going
+pub mod Sending
+pub mod Members

@@ -1,0 +1,4 @@
+pub mod State
+pub mod Built
+pub mod Flushing
+pub mod inner
