@@ -1,2 +1,3 @@
+pub mod DrawnOut
 pub mod LeavesGivenUp
 pub mod TermsWithin

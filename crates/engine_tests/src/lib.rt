@@ -10,6 +10,10 @@ mod asker_tests;
 #[cfg(test)]
 mod cache_tests;
 #[cfg(test)]
+mod drawn;
+#[cfg(test)]
+mod drawn_tests;
+#[cfg(test)]
 mod eval_tests;
 #[cfg(test)]
 mod graph_tests;

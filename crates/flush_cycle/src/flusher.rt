@@ -13,6 +13,7 @@ ghost use Rattle.flush_cycle.specs.Flushing.{Flushes, StartsBehind, IfDone, IfNo
 use crate::flushed::Flushed;
 use crate::report::Report;
 use crate::stage::Stage;
+use crate::starting::task_count;
 use crate::telling::answer;
 use crate::work::Work;
 use app_tree::App;
@@ -171,12 +172,15 @@ impl Flusher {
         answer(&mut self.stage, &mut self.report, told)
     }
 
-    /// The number of the invocation of a task that runs, if one does.
+    /// The number of the invocation of a task that runs, if one does. No invocation runs of a task that the app doesn't have.
     pub fn running(&self, task: u32) -> Option<u64>
-        requires { task < length (filter is_task (shape_of self.now.app).items) }
         ensures { result ≡ running_number (board_at self.now.kept.boards task) }
     {
-        self.work.boards.running(task)
+        if task < task_count(&self.work.app) {
+            self.work.boards.running(task)
+        } else {
+            None
+        }
     }
 
     /// The oldest of the jobs that were started and not yet given out; there is none exactly where none is left.

@@ -94,7 +94,8 @@ pub fn pending(alloc: Global, app: &App) -> Result<Pending, Memory>
     Ok(pending)
 }
 
-fn task_count(app: &App) -> u32
+/// How many tasks the app has.
+pub fn task_count(app: &App) -> u32
     ensures value { result ≡ length (filter is_task (shape_of app.now).items) }
     ensures most { result ≤ ITEM_LIMIT }
 {

@@ -1,10 +1,7 @@
-use Rattle.std.proofs.Common.{◌≡◌, List, length, refl, subst, sym}
+use Rattle.std.proofs.Common.{List, length, refl, subst, sym}
 use Rattle.std.proofs.lemmas.Bool.{ltb-true}
 use Rattle.std.proofs.lemmas.Option.{slice_get_read}
-use Rattle.app_tree.specs.declared.term.Term.{Term}
-use Rattle.app_tree.specs.declared.statement.Statement.{Statement}
-use Rattle.app_tree.specs.View.{act_of, acts_of_block, tree_of}
-use Rattle.app_tree.specs.Cover.{reads_in}
+use Rattle.app_tree.specs.View.{act_of, acts_of_block}
 use Rattle.app_tree.specs.declared.term.Read.{Read}
 use Rattle.app_laws.specs.Orderly.{reads_in_act, reads_in_acts}
 use Rattle.engine_tests.specs.inner.ObserverReads.{IsWithin}

@@ -1,10 +1,9 @@
-use Rattle.std.proofs.Common.{◌≡◌, List, refl, subst, sym, ap}
-use Rattle.app_tree.specs.declared.term.Term.{Term}
+use Rattle.std.proofs.Common.{List, refl, subst, sym}
 use Rattle.app_tree.specs.declared.item.Item.{Item}
 use Rattle.app_tree.specs.declared.statement.Statement.{Statement}
 use Rattle.app_tree.specs.View.{acts_of_block, node_of, tree_of}
 use Rattle.app_tree.specs.Cover.{reads_in}
-use Rattle.app_laws.specs.Orderly.{reads_in_act, reads_in_acts}
+use Rattle.app_laws.specs.Orderly.{reads_in_acts}
 use Rattle.engine_tests.specs.inner.ObserverReads.{IsWithin, IsTermOf}
 use Rattle.engine_tests.proofs.TermsWithin.{under, front_own, back_own}
 use Rattle.engine_tests.proofs.lookup.term_in.Goals as goal

@@ -1,7 +1,6 @@
 use Rattle.std.proofs.Common.{◌≡◌, [], length}
 use Rattle.std.specs.Prelude.{true}
 use Rattle.app_tree.specs.View.{shape_of}
-use Rattle.app_tree.specs.Numbering.{starting_values}
 use Rattle.engine_tests.proofs.playing.follow_all.Given as goal
 
 -- the session is one of the app and may go on, and no Leave is out

@@ -1,5 +1,4 @@
-use Rattle.std.proofs.Common.{rules, ◌≡◌, List, [], true, None, length, ◌∙◌, ap, sym}
-use Rattle.app_tree.specs.Held.{Held}
+use Rattle.std.proofs.Common.{rules, ◌≡◌, true, None, length, ◌∙◌, ap, sym}
 use Rattle.app_tree.specs.View.{shape_of}
 use Rattle.app_tree.specs.Numbering.{starting_values}
 use Rattle.engine_tests.proofs.playing.play_rounds_counted.Goals as goal
